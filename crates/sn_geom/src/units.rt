@@ -41,7 +41,11 @@ impl Um {
     pub fn new(v: i32) -> Option<Um>
         ensures { SomeIff result (IsLength v) v }
     {
-        if v.unsigned_abs() <= REACH { Some(Um(v)) } else { None }
+        if v.unsigned_abs() <= REACH {
+            Some(Um(v))
+        } else {
+            None
+        }
     }
 
     /// The length in micrometres.

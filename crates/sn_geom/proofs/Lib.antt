@@ -1,0 +1,11 @@
+pub mod DigitValues
+pub mod Discs
+pub mod ExchangeNumbers
+pub mod Nearness
+pub mod NumberLimits
+pub mod NumberText
+pub mod Powers
+pub mod Ring
+pub mod RoundingLaws
+pub mod Scaling
+pub mod Touching
