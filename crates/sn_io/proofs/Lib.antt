@@ -1,1 +1,2 @@
+pub mod MemFilesLemmas
 pub mod SinkLemmas

@@ -1,3 +1,7 @@
 pub mod Count
+pub mod DiskFiles
 pub mod Files
+pub mod MemFiles
+pub mod MemSink
+pub mod OutSink
 pub mod Sink

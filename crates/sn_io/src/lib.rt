@@ -4,8 +4,19 @@
 //! sinks in memory tell their content; the machine's files and outputs do not.
 #![tactic(auto)]
 
+mod calls;
+mod disk_files;
 mod files;
+mod mem_files;
+mod mem_sink;
+mod out_sink;
 mod sink;
+#[cfg(test)]
+mod tests;
 
+pub use disk_files::DiskFiles;
 pub use files::{Failed, Files};
+pub use mem_files::MemFiles;
+pub use mem_sink::MemSink;
+pub use out_sink::OutSink;
 pub use sink::{Sink, WriteFault, write_all};
