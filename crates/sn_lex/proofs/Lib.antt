@@ -1,0 +1,16 @@
+pub mod Bytes
+pub mod Runs
+pub mod Competes
+pub mod Numbers
+pub mod Names
+pub mod NumberReads
+pub mod Quoted
+pub mod Comments
+pub mod Digits
+pub mod Tokens
+pub mod Places
+pub mod KindOf
+pub mod Apart
+pub mod Unique
+pub mod Written
+pub mod Named

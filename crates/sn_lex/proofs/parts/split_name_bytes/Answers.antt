@@ -1,0 +1,5 @@
+use Rattle.sn_lex.proofs.Runs.{splits_at}
+use Rattle.sn_lex.proofs.parts.split_name_bytes.Goals as goal
+
+pub returns : goal.returns
+returns c = splits_at _ _ _ _ _ c.name_bytes_len.ensures.len c.split_at.ensures.front c.split_at.ensures.back
