@@ -1,0 +1,20 @@
+use Rattle.std.proofs.Common.{◌++◌, List, ℕ, sym, ap, ◌∙◌, flat_map}
+use Rattle.sn_p21.specs.Canonical.{words_text, canonical_text}
+use Rattle.sn_p21.specs.Grammar.{header_words, middle_words, closing_words, opening_words}
+use Rattle.sn_p21.specs.Written.{rows_words}
+use Rattle.sn_p21.proofs.Texts.{file_text}
+use Rattle.sn_p21.proofs.write.write_file.Goals as goal
+
+pub returns : goal.returns
+returns c =
+    let h = c.f.inside.header in
+    let is = c.f.inside.instances in
+    let o = words_text opening_words in
+    let m = words_text middle_words in
+    let e = words_text closing_words in
+    let r = words_text (rows_words is) in
+    c.from_vec.ensures
+    ∙ c.in_ok-put-3.ensures
+    ∙ ap (λ (xs : List ℕ). xs ++ e) (c.in_ok-put_instances.ensures ∙ ap (λ (xs : List ℕ). xs ++ r) (c.in_ok-put-2.ensures ∙ ap (λ (xs : List ℕ). xs ++ m) (c.in_ok-put_header.ensures ∙ ap (λ es. c.put.new.out.items ++ words_text (flat_map header_words es)) c.as_slice.ensures ∙ ap (λ (xs : List ℕ). xs ++ words_text (flat_map header_words h)) (c.in_ok-put.ensures ∙ ap (λ (xs : List ℕ). xs ++ o) c.new-out.ensures.items))))
+    ∙ sym (file_text (flat_map header_words h) (rows_words is))
+    ∙ ap canonical_text c.f.view_is

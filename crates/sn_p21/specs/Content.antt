@@ -1,0 +1,8 @@
+-- What a file holds.
+use Rattle.std.specs.Prelude.{List}
+use Rattle.sn_p21.specs.declared.file.Entity.{Entity}
+use Rattle.sn_p21.specs.declared.file.Instance.{Instance}
+
+pub record Content : Type 0 where
+  pub header : List Entity
+  pub instances : List Instance

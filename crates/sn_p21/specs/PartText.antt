@@ -1,0 +1,16 @@
+-- Part texts.
+use Rattle.std.specs.Prelude.{◌≡◌, ℕ, List}
+use Rattle.sn_p21.specs.Content.{Content}
+use Rattle.sn_p21.specs.Grammar.{AreFileWords, IsFile}
+use Rattle.sn_p21.specs.Word.{Word, AreWords}
+
+-- The bytes are words with separators between them, derived from the file by the grammar.
+pub record IsPartText (bytes : List ℕ) (f : Content) : Type 0 where
+  pub ws : List Word
+  pub words : AreWords bytes ws
+  pub derived : AreFileWords f ws
+  pub rule : IsFile f
+
+-- one text is one file
+abbrev pub OneFile : Type 0
+OneFile = (bytes : List ℕ) (f g : Content) → IsPartText bytes f → IsPartText bytes g → f ≡ g

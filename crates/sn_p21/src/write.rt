@@ -1,0 +1,155 @@
+//! Writing the canonical text of a file.
+
+ghost use Rattle.std.specs.Prelude.{◌≡◌, ◌++◌, ◌∷◌, [], IfOk, OnOk, decimal, map, cond, nat_eq, flat_map};
+ghost use Rattle.sn_lex.specs.Form.{doubled};
+ghost use Rattle.sn_p21.specs.Canonical.{canonical_text, words_text};
+ghost use Rattle.sn_p21.specs.Grammar.{param_words, list_words, entity_words, instance_words, parts_words, header_words};
+ghost use Rattle.sn_p21.specs.Written.{rows_words};
+
+use crate::file::{Bytes, Entity, File, Instance, Param};
+use crate::instances::Instances;
+use itoa::Buffer;
+use sn_geom::Memory;
+use sqlite_items::Items;
+use std::alloc::Global;
+
+/// The canonical text of a file.
+pub fn write_file(alloc: Global, f: &File) -> Result<Bytes, Memory>
+    ensures { IfOk result (λ written. written ≡ canonical_text f.now) }
+{
+    let mut out = Vec::new(alloc);
+    put(&mut out, b"ISO-10303-21;\nHEADER;\n")?;
+    put_header(&mut out, f.header.as_slice())?;
+    put(&mut out, b"ENDSEC;\nDATA;\n")?;
+    put_instances(&mut out, &f.instances)?;
+    put(&mut out, b"ENDSEC;\nEND-ISO-10303-21;\n")?;
+    Ok(Items::from_vec(out))
+}
+
+fn put(out: &mut Vec<u8>, text: &[u8]) -> Result<(), Memory>
+    ensures { OnOk result (out.new.items ≡ out.old.items ++ text.now) }
+{
+    out.extend_from_slice(text)?;
+    Ok(())
+}
+
+fn put_header(out: &mut Vec<u8>, header: &[Entity]) -> Result<(), Memory>
+    ensures { OnOk result (out.new.items ≡ out.old.items ++ words_text (flat_map header_words header.now)) }
+{
+    for entity in header {
+        put_entity(out, entity)?;
+        put(out, b";\n")?;
+    }
+    Ok(())
+}
+
+fn put_instances(out: &mut Vec<u8>, instances: &Instances) -> Result<(), Memory>
+    ensures { OnOk result (out.new.items ≡ out.old.items ++ words_text (rows_words instances.now)) }
+{
+    for place in 0..instances.len() {
+        if let Some(instance) = instances.at(place) {
+            put_instance(out, instance)?;
+        }
+    }
+    Ok(())
+}
+
+fn put_instance(out: &mut Vec<u8>, instance: &Instance) -> Result<(), Memory>
+    ensures { OnOk result (out.new.items ≡ out.old.items ++ words_text (instance_words instance.now.number (parts_words instance.now.parts))) }
+{
+    put_number(out, instance.number)?;
+    put(out, b"=")?;
+    put_parts(out, instance.parts.as_slice())?;
+    put(out, b";\n")
+}
+
+fn put_parts(out: &mut Vec<u8>, parts: &[Entity]) -> Result<(), Memory>
+    ensures { OnOk result (out.new.items ≡ out.old.items ++ words_text (parts_words parts.now)) }
+{
+    if let [part] = parts {
+        return put_entity(out, part);
+    }
+    put(out, b"(")?;
+    for part in parts {
+        put_entity(out, part)?;
+    }
+    put(out, b")")
+}
+
+fn put_entity(out: &mut Vec<u8>, entity: &Entity) -> Result<(), Memory>
+    ensures { OnOk result (out.new.items ≡ out.old.items ++ words_text (entity_words entity.now)) }
+{
+    put(out, entity.keyword.as_slice())?;
+    put_list(out, entity.params.as_slice())
+}
+
+#[cycle(params)]
+fn put_list(out: &mut Vec<u8>, params: &[Param]) -> Result<(), Memory>
+    ensures { OnOk result (out.new.items ≡ out.old.items ++ words_text (list_words (map param_words params.now))) }
+{
+    put(out, b"(")?;
+    for (i, param) in params.iter().enumerate() {
+        put(out, if i > 0 { b"," } else { b"" })?;
+        put_param(out, param)?;
+    }
+    put(out, b")")
+}
+
+#[cycle(params)]
+fn put_param(out: &mut Vec<u8>, param: &Param) -> Result<(), Memory>
+    ensures { OnOk result (out.new.items ≡ out.old.items ++ words_text (param_words param.now)) }
+{
+    match param {
+        Param::Int(spelling) => put(out, spelling.as_slice()),
+        Param::Real(spelling) => put(out, spelling.as_slice()),
+        Param::Text(value) => put_text(out, value.as_slice()),
+        Param::Enum(name) => put_between(out, b".", name.as_slice()),
+        Param::Binary(digits) => put_between(out, b"\"", digits.as_slice()),
+        Param::Ref(number) => put_number(out, *number),
+        Param::List(params) => put_list(out, params.as_slice()),
+        Param::Typed(keyword, params) => {
+            put(out, keyword.as_slice())?;
+            put_list(out, params.as_slice())
+        }
+        Param::Absent => put(out, b"$"),
+        Param::Derived => put(out, b"*"),
+    }
+}
+
+/// The text with this mark on both sides.
+fn put_between(out: &mut Vec<u8>, mark: &[u8], text: &[u8]) -> Result<(), Memory>
+    ensures { OnOk result (out.new.items ≡ out.old.items ++ (mark.now ++ text.now ++ mark.now)) }
+{
+    put(out, mark)?;
+    put(out, text)?;
+    put(out, mark)
+}
+
+fn put_text(out: &mut Vec<u8>, value: &[u8]) -> Result<(), Memory>
+    ensures { OnOk result (out.new.items ≡ out.old.items ++ (39 ∷ doubled value.now ++ 39 ∷ [])) }
+{
+    put(out, b"'")?;
+    put_doubled(out, value)?;
+    put(out, b"'")
+}
+
+/// The bytes, with each apostrophe twice.
+fn put_doubled(out: &mut Vec<u8>, value: &[u8]) -> Result<(), Memory>
+    ensures { OnOk result (out.new.items ≡ out.old.items ++ doubled value.now) }
+{
+    for byte in value {
+        if *byte == b'\'' {
+            out.push(b'\'')?;
+        }
+        out.push(*byte)?;
+    }
+    Ok(())
+}
+
+fn put_number(out: &mut Vec<u8>, number: u32) -> Result<(), Memory>
+    ensures { OnOk result (out.new.items ≡ out.old.items ++ 35 ∷ decimal number) }
+{
+    let mut buffer = Buffer::new();
+    put(out, b"#")?;
+    put(out, buffer.format(number).as_bytes())
+}
