@@ -1,0 +1,9 @@
+pub mod Products
+pub mod Places
+pub mod Checks
+pub mod Rotations
+pub mod Composing
+pub mod Arithmetic
+pub mod Placing
+pub mod Distances
+pub mod Counting

@@ -1,0 +1,5 @@
+pub mod Matrix
+pub mod Frame
+pub mod Direction
+pub mod Place
+pub mod FrameLaws
