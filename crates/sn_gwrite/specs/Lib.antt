@@ -1,0 +1,3 @@
+pub mod Kept
+pub mod Length
+pub mod Program

@@ -1,0 +1,172 @@
+//! Programs and lengths as text.
+ghost use Rattle.std.specs.Prelude.{◌≡◌, None, IfSome};
+ghost use Rattle.sn_gwrite.specs.Kept.{IsStraight};
+
+use crate::text::Text;
+use crate::{Emitter, length_text_shows_length, text_shows_one_length};
+use sn_geom::{Pt3, Um};
+use sn_io::{Failed, Sink, WriteFault};
+use std::alloc::Global;
+use std::test::Fail;
+
+/// One hole.
+const HOLE: &str = "%
+G21 G90 G17 G94 G40 G61
+(T1 #17)
+(WS #4)
+T1 M6
+G43 H1
+S720 M3
+F300
+G0 Z20.000
+G0 X10.000 Y10.000
+G0 Z11.000
+G1 Z4.000
+G0 Z20.000
+M2
+%
+";
+
+/// A cut in the plane, for no tool that is listed.
+const CUT: &str = "%
+G21 G90 G17 G94 G40 G61
+(WS #4294967295)
+T99999 M6
+G43 H99999
+S100000 M3
+F1
+G0 Z20.000
+G0 X-0.005 Y15.000
+G1 X40.000 Y-2000.000
+M2
+%
+";
+
+/// A sink that takes at most so many bytes a write, and fails at one write.
+#[derive(Drop)]
+struct Tape {
+    bytes: Vec<u8>,
+    most: usize,
+    writes: u32,
+    failing: u32,
+    faults: u64,
+}
+
+impl Tape {
+    fn new(alloc: Global, most: usize, failing: u32) -> Tape {
+        Tape {
+            bytes: Vec::new(alloc),
+            most,
+            writes: 0,
+            failing,
+            faults: 0,
+        }
+    }
+}
+
+impl Sink for Tape {
+    ghost state = { λ tape. record { held = None; taken = None; faults = tape.faults } };
+
+    fn write(&mut self, bytes: &[u8]) -> Result<usize, Failed> {
+        self.writes = self.writes.saturating_add(1);
+        let piece = &bytes[..bytes.len().min(self.most)];
+        if self.writes == self.failing
+            || piece.is_empty()
+            || self.bytes.extend_from_slice(piece).is_err()
+        {
+            self.faults = self.faults.saturating_add(1);
+            return Err(Failed);
+        }
+        Ok(piece.len())
+    }
+}
+
+fn point(x: i32, y: i32, z: i32) -> Option<Pt3>
+    ensures { IfSome result (λ p. p ≡ record { x = x; y = y; z = z }) }
+{
+    Some(Pt3 {
+        x: Um::new(x)?,
+        y: Um::new(y)?,
+        z: Um::new(z)?,
+    })
+}
+
+fn write_hole<S: Sink>(sink: &mut S, high: &Pt3, low: &Pt3, floor: &Pt3) -> Result<(), WriteFault>
+    requires down { IsStraight high.now low.now }
+    requires plunge { IsStraight low.now floor.now }
+    requires up { IsStraight floor.now high.now }
+{
+    let mut emitter = Emitter::new();
+    emitter.head(sink, &[17])?;
+    emitter.mark(sink, 4)?;
+    emitter.change_tool(sink, 1)?;
+    emitter.rates(sink, 720, 300)?;
+    emitter.rapid(sink, high)?;
+    emitter.rapid(sink, high)?;
+    emitter.rapid(sink, low)?;
+    emitter.feed(sink, floor)?;
+    emitter.rapid(sink, high)?;
+    emitter.end(sink)
+}
+
+fn write_cut<S: Sink>(sink: &mut S, from: &Pt3, to: &Pt3) -> Result<(), WriteFault>
+    requires { IsStraight from.now to.now }
+{
+    let mut emitter = Emitter::new();
+    emitter.head(sink, &[])?;
+    emitter.mark(sink, u32::MAX)?;
+    emitter.change_tool(sink, 99_999)?;
+    emitter.rates(sink, 100_000, 1)?;
+    emitter.rapid(sink, from)?;
+    emitter.rapid(sink, from)?;
+    emitter.feed(sink, to)?;
+    emitter.end(sink)
+}
+
+#[test]
+fn writes_a_hole(rt: HostRuntime) -> Result<(), Fail> {
+    let high = point(10_000, 10_000, 20_000).ok_or("range")?;
+    let low = point(10_000, 10_000, 11_000).ok_or("range")?;
+    let floor = point(10_000, 10_000, 4_000).ok_or("range")?;
+    for (most, failing, taken) in [(256, 0, 136), (1, 0, 136), (256, 3, 35), (1, 100, 99)] {
+        let mut tape = Tape::new(rt.alloc(), most, failing);
+        let written = write_hole(&mut tape, &high, &low, &floor);
+        assert_eq!(rt; written.is_ok(), failing == 0);
+        assert_eq!(rt; tape.bytes.len(), taken);
+        assert!(rt; HOLE.as_bytes().starts_with(tape.bytes.as_slice()));
+    }
+    Ok(())
+}
+
+#[test]
+fn writes_a_cut(rt: HostRuntime) -> Result<(), Fail> {
+    let from = point(-5, 15_000, 20_000).ok_or("range")?;
+    let to = point(40_000, -2_000_000, 20_000).ok_or("range")?;
+    let mut tape = Tape::new(rt.alloc(), 256, 0);
+    write_cut(&mut tape, &from, &to)?;
+    assert_eq!(rt; tape.bytes.as_slice(), CUT.as_bytes());
+    Ok(())
+}
+
+#[test]
+fn prints_lengths(rt: HostRuntime) -> Result<(), Fail> {
+    length_text_shows_length();
+    text_shows_one_length();
+    for (um, text) in [
+        (0, "0.000"),
+        (7, "0.007"),
+        (-7, "-0.007"),
+        (-1_000, "-1.000"),
+        (12_345, "12.345"),
+        (2_000_000, "2000.000"),
+        (-2_000_000, "-2000.000"),
+        (10_050, "10.050"),
+    ] {
+        let mut tape = Tape::new(rt.alloc(), 256, 0);
+        let mut printed = Text::new();
+        printed.push_length(Um::new(um).ok_or("range")?);
+        printed.write_to(&mut tape)?;
+        assert_eq!(rt; tape.bytes.as_slice(), text.as_bytes());
+    }
+    Ok(())
+}
