@@ -1,0 +1,13 @@
+pub mod CommandLemmas
+pub mod ReadingLemmas
+pub mod HoleLemmas
+pub mod ProgramLemmas
+pub mod HoleTextLemmas
+pub mod GridLemmas
+pub mod SeenLemmas
+pub mod RunningLemmas
+pub mod LineLemmas
+pub mod FormedLemmas
+pub mod RunLemmas
+pub mod MeansLemmas
+pub mod GoodLemmas

@@ -1,0 +1,18 @@
+use Rattle.std.proofs.Common.{arith}
+use Rattle.stepmill.proofs.GridLemmas.{positive_is}
+use Rattle.stepmill.proofs.HoleLemmas.{size_read, one_read, size_length, hole_length}
+use Rattle.stepmill.proofs.SeenLemmas.{seen}
+use Rattle.stepmill.proofs.seen.is_seen.Goals as goal
+
+pub returns : goal.returns
+returns c =
+    let part = c.args.part.now in
+    let low = c.requires.least in
+    let same = seen part c.args.pitch (omega arith) (positive_is part.x part.x_within.low) (positive_is part.y part.y_within.low) in
+    let px = one_read part.px c.length.result part.px_within c.length.ensures in
+    let py = one_read part.py c.length-2.result part.py_within c.length-2.ensures in
+    let hole = size_read part.hole c.unsigned_abs.result (hole_length part.hole part.hole_within) c.unsigned_abs.ensures.value in
+    let x = size_read part.x c.unsigned_abs-2.result (size_length part.x part.x_within) c.unsigned_abs-2.ensures.value in
+    let y = size_read part.y c.unsigned_abs-3.result (size_length part.y part.y_within) c.unsigned_abs-3.ensures.value in
+    let found = rw (px, py, hole, x, y) at c.has_node.ensures in
+    ((λ test. same.0 (found.0 test)), (λ is_seen. found.1 (same.1 is_seen)))

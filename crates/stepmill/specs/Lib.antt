@@ -1,0 +1,15 @@
+pub mod Command
+pub mod Good
+pub mod HoleText
+pub mod Job
+pub mod Line
+pub mod Machine
+pub mod Material
+pub mod OneHole
+pub mod Plan
+pub mod Reading
+pub mod Region
+pub mod Seen
+pub mod Text
+pub mod Window
+pub mod Outcome

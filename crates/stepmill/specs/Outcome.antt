@@ -1,0 +1,113 @@
+-- What a command ends with: a status, and the texts for the output and for the errors (this project's own).
+use Rattle.std.specs.Prelude.{◌≡◌, ℕ, ◌+◌, ◌≤◌, ◌<◌, ◌⊎◌, List, [], ◌++◌, length, codes, decimal, IsTrue}
+use Rattle.sn_io.specs.Count.{Rises}
+use Rattle.sn_io.specs.Files.{FilesState}
+use Rattle.sn_io.specs.Sink.{SinkState, Takes, TakesFront}
+use Rattle.sn_p21.specs.declared.plain.part.Plain.{Plain}
+use Rattle.sn_p21.specs.Plain.{PlainText}
+use Rattle.stepmill.specs.declared.status.Status.{Status}
+use Rattle.stepmill.specs.declared.status.Status.TheVariants.{Done, PartRefused, BadWords, ReadFault, WriteFault, Memory, TooLong}
+use Rattle.stepmill.specs.declared.refusal.Refusal.{Refusal}
+use Rattle.stepmill.specs.declared.refusal.Refusal.TheVariants as refused
+use Rattle.stepmill.specs.declared.reading.TheConstants.{LONGEST}
+use Rattle.stepmill.specs.Command.{IsCommand, DepartsAt}
+use Rattle.stepmill.specs.OneHole.{IsBuilt, IsSeen, hole_job, hole_plan}
+use Rattle.stepmill.specs.Text.{program_text}
+
+-- the text of a refusal
+abbrev pub refusal_text : Refusal → List ℕ
+refusal_text (refused.Word place) = codes "stepmill: word " ++ (decimal place ++ codes "\n")
+refusal_text refused.NotRead = codes "stepmill: read fault\n"
+refusal_text refused.NoMemory = codes "stepmill: memory\n"
+refusal_text refused.TooLong = codes "stepmill: too long\n"
+refusal_text refused.FormNotBuilt = codes "stepmill: part: form not built\n"
+refusal_text refused.TooSmall = codes "stepmill: part: #8 too small for the grid\n"
+
+-- the status of a refusal whose text was written
+abbrev pub status_of : Refusal → Status
+status_of (refused.Word place) = BadWords
+status_of refused.NotRead = ReadFault
+status_of refused.NoMemory = Memory
+status_of refused.TooLong = TooLong
+status_of refused.FormNotBuilt = PartRefused
+status_of refused.TooSmall = PartRefused
+
+-- The bytes of the part ask for what is refused. A part is judged only where it is not too long.
+abbrev pub IsRefusedPart : List ℕ → ℕ → Refusal → Type 0
+IsRefusedPart bytes pitch (refused.Word place) = ⊥
+IsRefusedPart bytes pitch refused.NotRead = ⊥
+IsRefusedPart bytes pitch refused.NoMemory = ⊥
+IsRefusedPart bytes pitch refused.TooLong = LONGEST < length bytes
+IsRefusedPart bytes pitch refused.FormNotBuilt = (length bytes ≤ LONGEST) × ((p : Plain) → PlainText bytes p → ¬ IsBuilt p pitch)
+IsRefusedPart bytes pitch refused.TooSmall = (p : Plain) × (length bytes ≤ LONGEST) × PlainText bytes p × IsBuilt p pitch × ¬ IsSeen p pitch
+
+-- the bytes are those of a part that is compiled
+pub record IsSoundPart (bytes : List ℕ) (pitch : ℕ) (p : Plain) : Type 0 where
+  pub short : length bytes ≤ LONGEST
+  pub plain : PlainText bytes p
+  pub built : IsBuilt p pitch
+  pub seen : IsSeen p pitch
+
+-- the words are refused, or the part that they name
+abbrev pub IsRefusal : List (List ℕ) → (List ℕ → List ℕ) → Refusal → Type 0
+IsRefusal words given (refused.Word place) = DepartsAt words place
+IsRefusal words given refusal = (name : List ℕ) × (pitch : ℕ) × IsCommand words name pitch × IsRefusedPart (given name) pitch refusal
+
+-- the words are a command, and the part that they name is sound
+pub record IsSound (words : List (List ℕ)) (given : List ℕ → List ℕ) (p : Plain) (pitch : ℕ) : Type 0 where
+  pub name : List ℕ
+  pub command : IsCommand words name pitch
+  pub part : IsSoundPart (given name) pitch p
+
+-- the program of a plain part
+abbrev pub hole_program : Plain → ℕ → List ℕ
+hole_program p pitch = program_text (hole_job p pitch) (hole_plan p pitch)
+
+-- the status, the text for the output and the text for the errors, memory and devices apart
+abbrev pub IsOutcome : List (List ℕ) → (List ℕ → List ℕ) → Status → List ℕ → List ℕ → Type 0
+IsOutcome words given Done text message = (p : Plain) × (pitch : ℕ) × IsSound words given p pitch × (text ≡ hole_program p pitch) × (message ≡ [])
+IsOutcome words given status text message =
+    (refusal : Refusal) × IsRefusal words given refusal × (status ≡ status_of refusal) × (text ≡ []) × (message ≡ refusal_text refusal)
+
+-- a status that memory or a device may give in place of the outcome's
+abbrev pub IsOfDevices : Status → Type 0
+IsOfDevices status = (status ≡ ReadFault) ⊎ ((status ≡ WriteFault) ⊎ (status ≡ Memory))
+
+-- why the file of a part was refused, with the files before and after
+abbrev pub IsRefusedFile : FilesState → FilesState → List ℕ → ℕ → Refusal → Type 0
+IsRefusedFile before after name pitch (refused.Word place) = ⊥
+IsRefusedFile before after name pitch refused.NotRead = Rises before.faults after.faults
+IsRefusedFile before after name pitch refused.NoMemory = Unit {0}
+IsRefusedFile before after name pitch refusal = IsTrue before.tells → IsRefusedPart (before.given name 0) pitch refusal
+
+-- the words are a command
+abbrev pub AreAccepted : List (List ℕ) → Type 0
+AreAccepted words = (name : List ℕ) × (pitch : ℕ) × IsCommand words name pitch
+
+-- Why a command was refused, with the files before and after: words that are refused leave the files as they were.
+abbrev pub Explains : List (List ℕ) → FilesState → FilesState → Refusal → Type 0
+Explains words before after (refused.Word place) = DepartsAt words place × (after ≡ before)
+Explains words before after refused.NotRead = AreAccepted words × Rises before.faults after.faults
+Explains words before after refused.NoMemory = AreAccepted words
+Explains words before after refusal = AreAccepted words × (IsTrue before.tells → IsRefusal words (λ name. before.given name 0) refusal)
+
+-- What reading the part of a command does to the files: it is opened once at the most, and read to its end or to the limit.
+pub record ReadsOnce (words : List (List ℕ)) (before after : FilesState) : Type 0 where
+  pub opens : after.opens ≤ before.opens + 1
+  pub reads : after.reads ≤ before.reads + LONGEST + 2
+  pub no_strange : IsTrue before.tells → (name : List ℕ) (pitch : ℕ) → IsCommand words name pitch → IsTrue (before.has_file name) → after.strange_opens ≡ before.strange_opens
+
+-- A write failed: of the text of a refusal, with nothing written to the output, or of the program, with nothing written to
+-- the errors. A front of that text was written.
+pub data Stops (words : List (List ℕ)) (before : FilesState) (out out_after err err_after : SinkState) : Type 0 where
+  at_message : (message : List ℕ) → Takes out out_after [] → TakesFront err err_after message → Stops words before out out_after err err_after
+  at_program : (p : Plain) (pitch : ℕ) → IsBuilt p pitch → (IsTrue before.tells → IsSound words (λ name. before.given name 0) p pitch)
+      → TakesFront out out_after (hole_program p pitch) → Takes err err_after [] → Stops words before out out_after err err_after
+
+-- the outcome, with what the sinks took
+pub record Ends (words : List (List ℕ)) (given : List ℕ → List ℕ) (status : Status) (out out_after err err_after : SinkState) : Type 0 where
+  pub text : List ℕ
+  pub message : List ℕ
+  pub outcome : IsOutcome words given status text message
+  pub written : Takes out out_after text
+  pub told : Takes err err_after message

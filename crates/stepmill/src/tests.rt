@@ -1,0 +1,223 @@
+//! Commands over files and sinks in memory.
+use crate::reading::LONGEST;
+use crate::{Status, Words, run};
+use sn_io::{MemFiles, MemSink};
+use std::test::Fail;
+
+/// The sample part, cut at the steps of its workplan and at the diameters of the hole and of the tool.
+const BEFORE_STEPS: &str = "ISO-10303-21;
+HEADER;
+FILE_DESCRIPTION(('one hole'),'1');
+FILE_NAME('one.stp','2024-01-01',('a'),('b'),'','','');
+FILE_SCHEMA(('MACHINING_SCHEMA','MILLING_SCHEMA'));
+ENDSEC;
+DATA;
+#1=PROJECT('one',#2,(#3),$,$,$);
+#2=WORKPLAN('main',(";
+
+const BEFORE_HOLE: &str = "),$,#5,$);
+#3=WORKPIECE('block',$,$,$,$,#6,());
+#4=MACHINING_WORKINGSTEP('hole',#7,#8,#9,$);
+#5=SETUP('setup',$,#7,(#10));
+#6=BLOCK('raw',#11,20.,20.,10.);
+#7=PLANE('security',#12);
+#8=ROUND_HOLE('hole',#3,(#9),#13,#14,#15,$,#16);
+#9=DRILLING($,$,'plunge',$,$,#17,#18,$,$,$,$,$,$,$);
+#10=WORKPIECE_SETUP(#3,#11,$,$,());
+#11=AXIS2_PLACEMENT_3D('origin',#19,$,$);
+#12=AXIS2_PLACEMENT_3D('security',#20,$,$);
+#13=AXIS2_PLACEMENT_3D('hole',#21,$,$);
+#14=PLANE('depth',#22);
+#15=TOLERANCED_LENGTH_MEASURE(";
+
+const BEFORE_TOOL: &str = ",$);
+#16=FLAT_HOLE_BOTTOM();
+#17=CUTTING_TOOL('mill 8',#23,(),80.,$,$);
+#18=MILLING_TECHNOLOGY(0.005,.TCP.,$,-12.,$,.F.,.F.,.F.,$);
+#19=CARTESIAN_POINT('',(0.,0.,0.));
+#20=CARTESIAN_POINT('',(0.,0.,20.));
+#21=CARTESIAN_POINT('',(10.,10.,10.));
+#22=AXIS2_PLACEMENT_3D('depth',#24,$,$);
+#23=ENDMILL(#25,4,.RIGHT.,.F.,$,$);
+#24=CARTESIAN_POINT('',(0.,0.,-6.));
+#25=MILLING_TOOL_DIMENSION(";
+
+const AFTER_TOOL: &str = ",$,$,20.,0.,$,$);
+ENDSEC;
+END-ISO-10303-21;
+";
+
+/// The program of the sample part at a pitch of one millimetre.
+const PROGRAM: &str = "%
+G21 G90 G17 G94 G40 G61
+(T1 #17)
+(WS #4)
+T1 M6
+G43 H1
+S720 M3
+F300
+G0 Z20.000
+G0 X10.000 Y10.000
+G0 Z11.000
+G1 Z4.000
+G0 Z20.000
+M2
+%
+";
+
+/// The sample part with other steps and diameters.
+fn part(rt: &HostRuntime, steps: &str, diameter: &str) -> Result<Vec<u8>, Fail> {
+    let mut text = Vec::from_slice(rt.alloc(), BEFORE_STEPS.as_bytes())?;
+    text.extend_from_slice(steps.as_bytes())?;
+    text.extend_from_slice(BEFORE_HOLE.as_bytes())?;
+    text.extend_from_slice(diameter.as_bytes())?;
+    text.extend_from_slice(BEFORE_TOOL.as_bytes())?;
+    text.extend_from_slice(diameter.as_bytes())?;
+    text.extend_from_slice(AFTER_TOOL.as_bytes())?;
+    Ok(text)
+}
+
+/// A command over one file `one.stp`, a call of which and a write of whose output may fail: its status, output and errors.
+fn ends(
+    rt: &HostRuntime,
+    line: &str,
+    part: &[u8],
+    failing: Option<u64>,
+    stopping: Option<u64>,
+) -> Result<(Status, Vec<u8>, Vec<u8>), Fail> {
+    let mut words = Words::new(rt.alloc());
+    for word in line.split(' ') {
+        words.push(word.as_bytes())?;
+    }
+    let mut files = MemFiles::new(rt.alloc());
+    files.add(b"one.stp", part)?;
+    let mut out = MemSink::new(rt.alloc(), 1_000)?;
+    let mut err = MemSink::new(rt.alloc(), 1_000)?;
+    if let Some(call) = failing {
+        files.fail_at(call)?;
+    }
+    if let Some(call) = stopping {
+        out.fail_at(call)?;
+    }
+    let status = run(rt.alloc(), &words, &mut files, &mut out, &mut err);
+    let written = Vec::from_slice(rt.alloc(), out.bytes())?;
+    let told = Vec::from_slice(rt.alloc(), err.bytes())?;
+    Ok((status, written, told))
+}
+
+#[test]
+fn commands_end_with_their_outcome(rt: HostRuntime) -> Result<(), Fail> {
+    let sample = part(&rt, "#4", "8.")?;
+    let small = part(&rt, "#4", "3.")?;
+    let no_steps = part(&rt, "", "8.")?;
+    let long = vec![in rt.alloc(); b' '; LONGEST + 1]?;
+    let rows = [
+        (
+            "compile one.stp --cell 1000",
+            sample.as_slice(),
+            Status::Done,
+            PROGRAM,
+            "",
+        ),
+        (
+            "compile one.stp --cell 01000",
+            sample.as_slice(),
+            Status::Done,
+            PROGRAM,
+            "",
+        ),
+        (
+            "compile one.stp --cell 1000",
+            small.as_slice(),
+            Status::PartRefused,
+            "",
+            "stepmill: part: #8 too small for the grid\n",
+        ),
+        (
+            "compile one.stp --cell 1000",
+            b"".as_slice(),
+            Status::PartRefused,
+            "",
+            "stepmill: part: form not built\n",
+        ),
+        (
+            "compile one.stp --cell 1000",
+            no_steps.as_slice(),
+            Status::PartRefused,
+            "",
+            "stepmill: part: form not built\n",
+        ),
+        (
+            "compile one.stp --cell 1000",
+            long.as_slice(),
+            Status::TooLong,
+            "",
+            "stepmill: too long\n",
+        ),
+        (
+            "compile one.stp --cell 19",
+            sample.as_slice(),
+            Status::BadWords,
+            "",
+            "stepmill: word 4\n",
+        ),
+        (
+            "compile one.stp --cell 1000 x",
+            sample.as_slice(),
+            Status::BadWords,
+            "",
+            "stepmill: word 5\n",
+        ),
+        (
+            "compile",
+            sample.as_slice(),
+            Status::BadWords,
+            "",
+            "stepmill: word 2\n",
+        ),
+        (
+            "compile two.stp --cell 1000",
+            sample.as_slice(),
+            Status::ReadFault,
+            "",
+            "stepmill: read fault\n",
+        ),
+    ];
+    for (line, text, status, out, err) in rows {
+        let (ended, written, told) = ends(&rt, line, text, None, None)?;
+        assert_eq!(rt; ended, status);
+        assert_eq!(rt; written.as_slice(), out.as_bytes());
+        assert_eq!(rt; told.as_slice(), err.as_bytes());
+    }
+    Ok(())
+}
+
+#[test]
+fn faults_of_devices_end_it(rt: HostRuntime) -> Result<(), Fail> {
+    let sample = part(&rt, "#4", "8.")?;
+    for call in 1..4u64 {
+        let (ended, written, told) = ends(
+            &rt,
+            "compile one.stp --cell 1000",
+            sample.as_slice(),
+            Some(call),
+            None,
+        )?;
+        assert_eq!(rt; ended, Status::ReadFault);
+        assert_eq!(rt; written.as_slice(), b"".as_slice());
+        assert_eq!(rt; told.as_slice(), b"stepmill: read fault\n".as_slice());
+    }
+    for call in 1..10u64 {
+        let (ended, written, told) = ends(
+            &rt,
+            "compile one.stp --cell 1000",
+            sample.as_slice(),
+            None,
+            Some(call),
+        )?;
+        assert_eq!(rt; ended, Status::WriteFault);
+        assert!(rt; PROGRAM.as_bytes().starts_with(written.as_slice()));
+        assert_eq!(rt; told.as_slice(), b"".as_slice());
+    }
+    Ok(())
+}
