@@ -1,0 +1,11 @@
+#!/usr/bin/env bash
+# Runs cases that lie beside the repository against the built program. It is skipped where they are missing.
+cd "$(dirname "$0")/.." || exit 1
+runner=../shared/check_cases
+cases=../shared/cases/stage01.jsonl
+program=crates/stepmill/out/stepmill
+if [ ! -x "$runner" ] || [ ! -f "$cases" ] || [ ! -x "$program" ]; then
+  echo "skipped: no cases or no built program" >&2
+  exit 0
+fi
+"$runner" "$cases" "$program"
