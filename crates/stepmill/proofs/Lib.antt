@@ -11,3 +11,4 @@ pub mod FormedLemmas
 pub mod RunLemmas
 pub mod MeansLemmas
 pub mod GoodLemmas
+pub mod SoundLemmas

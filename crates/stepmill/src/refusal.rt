@@ -1,5 +1,5 @@
 //! Why no program is written, and what is said of it.
-ghost use Rattle.std.specs.Prelude.{◌≡◌, ◌≢◌, ◌++◌, codes, decimal};
+ghost use Rattle.std.specs.Prelude.{◌≡◌, ◌≢◌, ◌⊎◌, ◌++◌, codes, decimal};
 ghost use Rattle.sn_io.specs.Sink.{Takes, TakesFront, Writes};
 ghost use Rattle.stepmill.specs.Outcome.{refusal_text, status_of};
 
@@ -26,6 +26,7 @@ pub enum Refusal {
 
 /// Writes the text of a refusal to the errors, and gives its status.
 pub fn refuse<E: Sink>(err: &mut E, refusal: Refusal) -> Status
+    ensures either { (result ≡ status_of refusal) ⊎ (result ≡ Status.WriteFault) }
     ensures told { result ≢ Status.WriteFault → (result ≡ status_of refusal) × Takes (E.state err.old) (E.state err.new) (refusal_text refusal) }
     ensures stopped { result ≡ Status.WriteFault → TakesFront (E.state err.old) (E.state err.new) (refusal_text refusal) }
 {

@@ -43,6 +43,10 @@ pub fn run<F: Files, S: Sink, E: Sink>(
         × Takes (S.state out.old) (S.state out.new) (hole_program part pitch)
         × Good (hole_job part pitch) (hole_program part pitch) }
 
+    // A sound part is compiled, unless memory is wanting or a device fails.
+    ensures completes { IsTrue (F.state files.old).tells → (part : Plain) (pitch : ℕ)
+        → IsSound words.now (λ name. (F.state files.old).given name 0) part pitch → (result ≡ Status.Done) ⊎ IsOfDevices result }
+
     // Each status that memory or a device gives has its cause.
     ensures read_fault { result ≡ Status.ReadFault → Rises (F.state files.old).faults (F.state files.new).faults }
     ensures write_fault { result ≡ Status.WriteFault → (Rises (S.state out.old).faults (S.state out.new).faults) ⊎ (Rises (E.state err.old).faults (E.state err.new).faults) }
@@ -67,6 +71,7 @@ pub fn run<F: Files, S: Sink, E: Sink>(
 
 fn write<S: Sink>(out: &mut S, prepared: &Prepared) -> Status
     requires { IsBuilt prepared.now.part prepared.now.pitch }
+    ensures either { (result ≡ Status.Done) ⊎ (result ≡ Status.WriteFault) }
     ensures done { result ≢ Status.WriteFault → (result ≡ Status.Done) × Takes (S.state out.old) (S.state out.new) (hole_program prepared.now.part prepared.now.pitch) }
     ensures stopped { result ≡ Status.WriteFault → TakesFront (S.state out.old) (S.state out.new) (hole_program prepared.now.part prepared.now.pitch) }
 {

@@ -1,9 +1,10 @@
 use Rattle.std.proofs.Common.{[], refl, sym, subst, inl, inr, ◌∙◌}
 use Rattle.sn_io.proofs.SinkLemmas.{takes-nothing}
-use Rattle.stepmill.specs.Outcome.{IsOutcome, hole_program, refusal_text}
+use Rattle.stepmill.specs.Outcome.{IsOfDevices, IsOutcome, hole_program, refusal_text}
 use Rattle.stepmill.specs.Outcome.Stops.{at_message, at_program}
 use Rattle.stepmill.proofs.GoodLemmas.{hole_is_good}
 use Rattle.stepmill.proofs.RunningLemmas.{refused_outcome, never_done}
+use Rattle.stepmill.proofs.SoundLemmas.{sound_not_refused}
 use Rattle.stepmill.proofs.run.run.Goals as goal
 
 pub returns-in-Ok-clause-stopped : goal.returns-in-Ok-clause-stopped
@@ -53,3 +54,13 @@ returns-in-Err-clause-outcome g c = λ tells devices.
 
 pub returns-in-Err-clause-stopped : goal.returns-in-Err-clause-stopped
 returns-in-Err-clause-stopped g c = λ stopped. at_message (refusal_text c.in-Err.refusal) (takes-nothing _) (c.refuse.ensures.stopped stopped)
+
+pub returns-in-Ok-clause-completes : goal.returns-in-Ok-clause-completes
+returns-in-Ok-clause-completes g c = λ tells part pitch sound.
+    elim c.write.ensures.either [ inl done ↦ inl done | inr stopped ↦ inr (inr (inl stopped)) ]
+
+pub returns-in-Err-clause-completes : goal.returns-in-Err-clause-completes
+returns-in-Err-clause-completes g c = λ tells part pitch sound.
+    let state = g.F.Files.state in
+    let devices = sound_not_refused c.args.words.now (state c.args.files.now) (state c.prepare.new.files) part pitch c.in-Err.refusal tells sound c.in-Err.ensures.explains in
+    elim c.refuse.ensures.either [ inl same ↦ inr (subst IsOfDevices (sym same) devices) | inr stopped ↦ inr (inr (inl stopped)) ]
