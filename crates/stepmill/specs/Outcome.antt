@@ -10,7 +10,7 @@ use Rattle.stepmill.specs.declared.status.Status.TheVariants.{Done, PartRefused,
 use Rattle.stepmill.specs.declared.refusal.Refusal.{Refusal}
 use Rattle.stepmill.specs.declared.refusal.Refusal.TheVariants as refused
 use Rattle.stepmill.specs.declared.reading.TheConstants.{LONGEST}
-use Rattle.stepmill.specs.Command.{IsCommand, DepartsAt}
+use Rattle.stepmill.specs.Command.{IsAccepted, IsCommand, DepartsAt}
 use Rattle.stepmill.specs.OneHole.{IsBuilt, IsSeen, hole_job, hole_plan}
 use Rattle.stepmill.specs.Text.{program_text}
 
@@ -80,16 +80,12 @@ IsRefusedFile before after name pitch refused.NotRead = Rises before.faults afte
 IsRefusedFile before after name pitch refused.NoMemory = Unit {0}
 IsRefusedFile before after name pitch refusal = IsTrue before.tells → IsRefusedPart (before.given name 0) pitch refusal
 
--- the words are a command
-abbrev pub AreAccepted : List (List ℕ) → Type 0
-AreAccepted words = (name : List ℕ) × (pitch : ℕ) × IsCommand words name pitch
-
 -- Why a command was refused, with the files before and after: words that are refused leave the files as they were.
 abbrev pub Explains : List (List ℕ) → FilesState → FilesState → Refusal → Type 0
 Explains words before after (refused.Word place) = DepartsAt words place × (after ≡ before)
-Explains words before after refused.NotRead = AreAccepted words × Rises before.faults after.faults
-Explains words before after refused.NoMemory = AreAccepted words
-Explains words before after refusal = AreAccepted words × (IsTrue before.tells → IsRefusal words (λ name. before.given name 0) refusal)
+Explains words before after refused.NotRead = IsAccepted words × Rises before.faults after.faults
+Explains words before after refused.NoMemory = IsAccepted words
+Explains words before after refusal = IsAccepted words × (IsTrue before.tells → IsRefusal words (λ name. before.given name 0) refusal)
 
 -- What reading the part of a command does to the files: it is opened once at the most, and read to its end or to the limit.
 pub record ReadsOnce (words : List (List ℕ)) (before after : FilesState) : Type 0 where
@@ -97,12 +93,13 @@ pub record ReadsOnce (words : List (List ℕ)) (before after : FilesState) : Typ
   pub reads : after.reads ≤ before.reads + LONGEST + 2
   pub no_strange : IsTrue before.tells → (name : List ℕ) (pitch : ℕ) → IsCommand words name pitch → IsTrue (before.has_file name) → after.strange_opens ≡ before.strange_opens
 
--- A write failed: of the text of a refusal, with nothing written to the output, or of the program, with nothing written to
--- the errors. A front of that text was written.
-pub data Stops (words : List (List ℕ)) (before : FilesState) (out out_after err err_after : SinkState) : Type 0 where
-  at_message : (message : List ℕ) → Takes out out_after [] → TakesFront err err_after message → Stops words before out out_after err err_after
+-- A write failed: of the text of a refusal that has its cause, with nothing written to the output, or of the program, with
+-- nothing written to the errors. A front of that text was written.
+pub data Stops (words : List (List ℕ)) (before after : FilesState) (out out_after err err_after : SinkState) : Type 0 where
+  at_message : (refusal : Refusal) → Explains words before after refusal
+      → Takes out out_after [] → TakesFront err err_after (refusal_text refusal) → Stops words before after out out_after err err_after
   at_program : (p : Plain) (pitch : ℕ) → IsBuilt p pitch → (IsTrue before.tells → IsSound words (λ name. before.given name 0) p pitch)
-      → TakesFront out out_after (hole_program p pitch) → Takes err err_after [] → Stops words before out out_after err err_after
+      → TakesFront out out_after (hole_program p pitch) → Takes err err_after [] → Stops words before after out out_after err err_after
 
 -- the outcome, with what the sinks took
 pub record Ends (words : List (List ℕ)) (given : List ℕ → List ℕ) (status : Status) (out out_after err err_after : SinkState) : Type 0 where

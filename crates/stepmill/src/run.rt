@@ -2,10 +2,10 @@
 ghost use Rattle.std.specs.Prelude.{◌≡◌, ◌≢◌, ◌⊎◌, ℕ, ◌+◌, ◌≤◌, [], IsTrue, IfOk, IfErr};
 ghost use Rattle.sn_io.specs.Count.{Rises, count_after};
 ghost use Rattle.sn_io.specs.Sink.{Takes, TakesFront};
-ghost use Rattle.stepmill.specs.Command.{DepartsAt, IsPitch};
+ghost use Rattle.stepmill.specs.Command.{DepartsAt, IsAccepted, IsPitch};
 ghost use Rattle.stepmill.specs.Good.{Good};
 ghost use Rattle.stepmill.specs.OneHole.{IsBuilt, hole_job};
-ghost use Rattle.stepmill.specs.Outcome.{AreAccepted, Ends, Explains, IsOfDevices, IsRefusedFile, IsSound, IsSoundPart, ReadsOnce, Stops, hole_program, refusal_text};
+ghost use Rattle.stepmill.specs.Outcome.{Ends, Explains, IsOfDevices, IsRefusedFile, IsSound, IsSoundPart, ReadsOnce, Stops, hole_program, refusal_text};
 
 use crate::command::read_command;
 use crate::part::judge;
@@ -50,13 +50,13 @@ pub fn run<F: Files, S: Sink, E: Sink>(
     // Each status that memory or a device gives has its cause.
     ensures read_fault { result ≡ Status.ReadFault → Rises (F.state files.old).faults (F.state files.new).faults }
     ensures write_fault { result ≡ Status.WriteFault → (Rises (S.state out.old).faults (S.state out.new).faults) ⊎ (Rises (E.state err.old).faults (E.state err.new).faults) }
-    ensures stopped { result ≡ Status.WriteFault → Stops words.now (F.state files.old) (S.state out.old) (S.state out.new) (E.state err.old) (E.state err.new) }
+    ensures stopped { result ≡ Status.WriteFault → Stops words.now (F.state files.old) (F.state files.new) (S.state out.old) (S.state out.new) (E.state err.old) (E.state err.new) }
     ensures read_fault_told { result ≡ Status.ReadFault → Takes (E.state err.old) (E.state err.new) (refusal_text Refusal.NotRead) }
     ensures memory_told { result ≡ Status.Memory → Takes (E.state err.old) (E.state err.new) (refusal_text Refusal.NoMemory) }
 
     // Words that are no command are refused whatever the files are, and no others.
     ensures departs { result ≡ Status.BadWords → (place : ℕ) × DepartsAt words.now place × Takes (E.state err.old) (E.state err.new) (refusal_text (Refusal.Word place)) }
-    ensures accepted { result ≢ Status.BadWords → result ≢ Status.WriteFault → AreAccepted words.now }
+    ensures accepted { result ≢ Status.BadWords → result ≢ Status.WriteFault → IsAccepted words.now }
     ensures unopened { result ≡ Status.BadWords → F.state files.new ≡ F.state files.old }
 
     // What stays as it was.
@@ -84,7 +84,7 @@ fn write<S: Sink>(out: &mut S, prepared: &Prepared) -> Status
 fn prepare<F: Files>(alloc: Global, words: &Words, files: &mut F) -> Result<Prepared, Refusal>
     ensures sound { IfOk result (λ prepared. IsTrue (F.state files.old).tells → IsSound words.now (λ name. (F.state files.old).given name 0) prepared.part prepared.pitch) }
     ensures built { IfOk result (λ prepared. IsBuilt prepared.part prepared.pitch) }
-    ensures accepted { IfOk result (λ _. AreAccepted words.now) }
+    ensures accepted { IfOk result (λ _. IsAccepted words.now) }
     ensures explains { IfErr result (Explains words.now (F.state files.old) (F.state files.new)) }
     ensures reads_once { ReadsOnce words.now (F.state files.old) (F.state files.new) }
 {

@@ -53,7 +53,7 @@ returns-in-Err-clause-outcome g c = λ tells devices.
     }
 
 pub returns-in-Err-clause-stopped : goal.returns-in-Err-clause-stopped
-returns-in-Err-clause-stopped g c = λ stopped. at_message (refusal_text c.in-Err.refusal) (takes-nothing _) (c.refuse.ensures.stopped stopped)
+returns-in-Err-clause-stopped g c = λ stopped. at_message c.in-Err.refusal c.in-Err.ensures.explains (takes-nothing _) (c.refuse.ensures.stopped stopped)
 
 pub returns-in-Ok-clause-completes : goal.returns-in-Ok-clause-completes
 returns-in-Ok-clause-completes g c = λ tells part pitch sound.
