@@ -1,8 +1,8 @@
 #!/usr/bin/env bash
-# Runs cases that lie beside the repository against the built program. It is skipped where they are missing.
+# Runs the newest cases that lie beside the repository against the built program. It is skipped where they are missing.
 cd "$(dirname "$0")/.." || exit 1
 runner=../shared/check_cases
-cases=../shared/cases/stage01.jsonl
+cases=$(ls ../shared/cases/*.jsonl 2> /dev/null | tail -n 1)
 program=crates/stepmill/out/stepmill
 if [ ! -x "$runner" ] || [ ! -f "$cases" ] || [ ! -x "$program" ]; then
   echo "skipped: no cases or no built program" >&2

@@ -70,16 +70,6 @@ file_end_word _ v text c h = absurd (let e : false ≡ true = h in cc)
 pub grown : (ws front tail : List Word) (w u : Word) → ws ≡ front ++ tail → w ≡ u → ws ++ w ∷ [] ≡ front ++ (tail ++ u ∷ [])
 grown ws front tail w u e m = ap (λ xs. xs ++ w ∷ []) e ∙ append_assoc front tail (w ∷ []) ∙ ap (λ x. front ++ (tail ++ x ∷ [])) m
 
--- Headers and instances.
-
-pub header_push : (count : ℕ) (h : List Entity) (e : Entity) → HeaderFrom count h → ends_header (count + length h) Keyword e.keyword ≡ false → names_header_entity (count + length h) Keyword e.keyword ≡ true → Fits e → HeaderFrom count (h ++ e ∷ [])
-header_push count [] e all ends names fits =
-    let z : count + length {A = Entity} [] ≡ count = omega arith in
-    (subst (λ n. ends_header n Keyword e.keyword ≡ false) z ends, subst (λ n. names_header_entity n Keyword e.keyword ≡ true) z names, fits, tt)
-header_push count (d ∷ h) e all ends names fits =
-    let z : count + length (d ∷ h) ≡ count + 1 + length h = omega arith in
-    (all.0, all.1, all.2, header_push (count + 1) h e all.3 (subst (λ n. ends_header n Keyword e.keyword ≡ false) z ends) (subst (λ n. names_header_entity n Keyword e.keyword ≡ true) z names) fits)
-
 pub header_words_push : (h : List Entity) (e : Entity) → flat_map header_words (h ++ e ∷ []) ≡ flat_map header_words h ++ header_words e
 header_words_push h e = flat_map-append header_words h (e ∷ []) ∙ ap (λ ws. flat_map header_words h ++ ws) (append-nil (header_words e))
 
@@ -91,3 +81,14 @@ data_push (j ∷ is) i rows ws all one =
 pub all_push : {A : Type 0} (P : A → Type 0) (xs : List A) (y : A) → AllByRecursion P xs → P y → AllByRecursion P (xs ++ y ∷ [])
 all_push P [] y all one = (one, tt)
 all_push P (x ∷ xs) y all one = (all.0, all_push P xs y all.1 one)
+
+module _ (limit : ℕ) where
+  -- Headers and instances.
+
+  pub header_push : (count : ℕ) (h : List Entity) (e : Entity) → HeaderFrom limit count h → ends_header (count + length h) Keyword e.keyword ≡ false → names_header_entity (count + length h) Keyword e.keyword ≡ true → Fits limit e → HeaderFrom limit count (h ++ e ∷ [])
+  header_push count [] e all ends names fits =
+      let z : count + length {A = Entity} [] ≡ count = omega arith in
+      (subst (λ n. ends_header n Keyword e.keyword ≡ false) z ends, subst (λ n. names_header_entity n Keyword e.keyword ≡ true) z names, fits, tt)
+  header_push count (d ∷ h) e all ends names fits =
+      let z : count + length (d ∷ h) ≡ count + 1 + length h = omega arith in
+      (all.0, all.1, all.2, header_push (count + 1) h e all.3 (subst (λ n. ends_header n Keyword e.keyword ≡ false) z ends) (subst (λ n. names_header_entity n Keyword e.keyword ≡ true) z names) fits)

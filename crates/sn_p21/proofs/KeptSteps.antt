@@ -27,84 +27,6 @@ use Rattle.sn_p21.proofs.ListWords.{begun, lead, comma_words, FitsAt, fit_push, 
 use Rattle.sn_p21.proofs.Kept.{InData, number_words, complex_words, Before, IsBefore, outside, InList, FixedKept, Kept}
 use Rattle.sn_p21.proofs.KeptLemmas.{Gave, same_reader, went, passed, word, named_word, semicolon_word, equals_word, file_start_word, file_end_word, grown, header_push, header_words_push, data_push, all_push}
 
-abbrev pub KeptBy : Reader → List Word → Type 0
-KeptBy t ws = Kept t ws
-
--- a step that goes to this reader
-pub gone : (s t : Reader) (ws : List Word) → s ≡ t → Kept s ws → Kept t ws
-gone s t ws e k = subst (λ r. Kept r ws) e k
-
--- Words that the grammar fixes.
-
-pub fixed_kept : (f : Fixed) (s : Reader) (t : Token) (v text : List ℕ) (ws : List Word) → Carries t text v → accepts f t v ≡ true → FixedKept f s ws → s.outer ≡ [] → Kept (record s { place = place_after f }) (ws ++ word t v ∷ [])
-fixed_kept fixed.FileStart s t v text ws c a k o = ((k.0, grown ws [] [] (word t v) _ k.1 (file_start_word t v text c a)), o)
-fixed_kept fixed.FileStartEnd s t v text ws c a k o = ((k.0, grown ws [] (mark FileStart ∷ []) (word t v) _ k.1 (semicolon_word t v text c a)), o)
-fixed_kept fixed.Header s t v text ws c a k o = ((k.0, grown ws [] (mark FileStart ∷ mark Semicolon ∷ []) (word t v) _ k.1 (named_word t v _ a)), o)
-fixed_kept fixed.HeaderEnd s t v text ws c a k o =
-    let e = grown ws [] (mark FileStart ∷ mark Semicolon ∷ keyword (codes "HEADER") ∷ []) (word t v) _ k.1 (semicolon_word t v text c a) in (
-      record {
-        header = subst (HeaderFrom 0) (sym k.0.0) tt;
-        instances = k.0.1;
-        parts = k.0.2;
-        words = e ∙ ap (λ h. opening_words ++ flat_map header_words h) (sym k.0.0);
-      },
-      o,
-    )
-fixed_kept fixed.HeaderEntityEnd s t v text ws c a k o =
-    let e = ap (λ w. ws ++ w ∷ []) (sym (semicolon_word t v text c a)) in
-    (record { header = k.header; instances = k.instances; parts = k.parts; words = sym e ∙ k.words }, o)
-fixed_kept fixed.HeaderSectionEnd s t v text ws c a k o = ((k.0, k.1, k.2, grown ws k.0 _ (word t v) _ k.3 (semicolon_word t v text c a)), o)
-fixed_kept fixed.Data s t v text ws c a k o = ((k.0, k.1, k.2, grown ws k.0 _ (word t v) _ k.3 (named_word t v _ a)), o)
-fixed_kept fixed.DataEnd s t v text ws c a k o =
-    let h = k.1 in
-    let e = grown ws k.0 _ (word t v) _ k.3 (semicolon_word t v text c a) in (
-      (
-        record {
-          rows = [];
-          header = h.header;
-          three = k.2;
-          derived = subst (λ is. AreDataWords is []) (sym h.instances) refl;
-          some = subst (AllByRecursion HasPart) (sym h.instances) tt;
-          fit = subst AllFit (sym h.instances) tt;
-          differ = subst NumbersDiffer (sym h.instances) tt;
-          words = e ∙ ap (λ xs. xs ++ middle_words) h.words ∙ sym (append-nil (opening_words ++ flat_map header_words s.header ++ middle_words));
-        },
-        h.parts,
-      ),
-      o,
-    )
-fixed_kept fixed.Equals s t v text ws c a k o = ((k.0, k.1, k.2, grown ws k.0 _ (word t v) _ k.3 (equals_word t v text c a)), o)
-fixed_kept fixed.InstanceEnd s t v text ws c a k o =
-    let d = k.0 in
-    let e = ap (λ w. ws ++ w ∷ []) (sym (semicolon_word t v text c a)) in
-    ((record { rows = d.rows; header = d.header; three = d.three; derived = d.derived; some = d.some; fit = d.fit; differ = d.differ; words = sym e ∙ d.words }, k.1), o)
-fixed_kept fixed.DataSectionEnd s t v text ws c a k o = ((k.0, k.1, k.2, grown ws k.0 _ (word t v) _ k.3 (semicolon_word t v text c a)), o)
-fixed_kept fixed.FileEnd s t v text ws c a k o = ((k.0, k.1, k.2, grown ws k.0 _ (word t v) _ k.3 (file_end_word t v text c a)), o)
-fixed_kept fixed.FileEndEnd s t v text ws c a k o = ((k.0, k.1, k.2, grown ws k.0 _ (word t v) _ k.3 (semicolon_word t v text c a)), o)
-
--- Lists.
-
--- a parameter that is one or more words
-pub param_kept : (s : Reader) (ws more : List Word) (p : Param) → InList s ws → param_words p ≡ more → FitsAt (1 + length s.outer) p → Kept (takes_param s p) (ws ++ more)
-param_kept s ws more p k e fits =
-    let l = s.list in
-    let before = outside s k.front in (
-      record {
-        front = k.front;
-        before = k.before;
-        around = k.around;
-        head = head_same s.outer l (list_with l p) refl k.head;
-        depth = k.depth;
-        params = l.params;
-        last = p;
-        all = refl;
-        one = k.list.0;
-        fit = fit_push (1 + length s.outer) l.params p k.list.1 fits;
-        words = ap (λ xs. xs ++ more) k.words ∙ append_assoc before (begun l) more ∙ ap (λ xs. before ++ xs) (append_assoc (lead l.opening) (comma_words l.params) more ∙ ap (λ xs. lead l.opening ++ (comma_words l.params ++ xs)) (sym e));
-      },
-      tt,
-    )
-
 begun_push : (ls : List OpenList) (l : OpenList) → flat_map begun (ls ++ l ∷ []) ≡ flat_map begun ls ++ begun l
 begun_push ls l = flat_map-append begun ls (l ∷ []) ∙ ap (λ ws. flat_map begun ls ++ ws) (append-nil (begun l))
 
@@ -112,81 +34,8 @@ begun_push ls l = flat_map-append begun ls (l ∷ []) ∙ ap (λ ws. flat_map be
 abbrev pub opened : Opening → Reader → Reader
 opened opening s = record s { outer = s.outer ++ s.list ∷ []; list = empty_list opening; place = first_place opening }
 
-list_kept : (opening : Opening) (s : Reader) (ws : List Word) → InList s ws → length s.outer + 1 < 64 → InList (opened opening s) (ws ++ lead opening)
-list_kept opening s ws k room =
-    let outer = length-append s.outer (s.list ∷ []) in
-    let before = k.front ++ keyword s.keyword ∷ [] in
-    record {
-      front = k.front;
-      before = k.before;
-      around = around_push 1 s.outer s.list k.around k.list;
-      head = head_push s.outer s.list (empty_list opening) k.head;
-      depth = omega arith;
-      list = (λ e. refl, tt);
-      words = ap (λ xs. xs ++ lead opening) (k.words ∙ append_assoc before (flat_map begun s.outer) (begun s.list) ∙ ap (λ xs. before ++ xs) (sym (begun_push s.outer s.list))) ∙ ap (λ xs. (before ++ flat_map begun (s.outer ++ s.list ∷ [])) ++ xs) (sym (append-nil (lead opening)));
-    }
-
-pub opened_kept : (opening : Opening) (s t : Reader) (ws : List Word) → InList s ws → Gave (opens opening s) t → Kept t (ws ++ lead opening)
-opened_kept Plain s t ws k h =
-    let w = went (nat_lt (length s.outer + 1) 64) deep (opened Plain s) t h in
-    gone (opened Plain s) t _ w.1 ((list_kept Plain s ws k (ltb-true _ _ w.0), refl), tt)
-opened_kept (Typed name) s t ws k h =
-    let w = went (nat_lt (length s.outer + 1) 64) deep (opened (Typed name) s) t h in
-    gone (opened (Typed name) s) t _ w.1 (list_kept (Typed name) s ws k (ltb-true _ _ w.0), tt)
-
--- Entities and instances.
-
-pub instance_kept : (h : List Entity) (is : List Instance) (front : List Word) (n : ℕ) (ps : List Entity) (iw ws : List Word) → InData h is front → has_number n is ≡ false → 0 < length ps → AllByRecursion Fits ps → AreInstanceWords (record { number = n; parts = ps }) iw → ws ≡ front ++ iw → InData h (is ++ (record { number = n; parts = ps }) ∷ []) ws
-instance_kept h is front n ps iw ws d new some fit derived e =
-    let i : Instance = record { number = n; parts = ps } in
-    let before = opening_words ++ flat_map header_words h ++ middle_words in
-    record {
-      rows = d.rows ++ iw;
-      header = d.header;
-      three = d.three;
-      derived = data_push is i d.rows iw d.derived derived;
-      some = all_push HasPart is i d.some some;
-      fit = all_push (λ j. AllByRecursion Fits j.parts) is i d.fit fit;
-      differ = differ_push is i d.differ (not_has_number n is new);
-      words = e ∙ ap (λ xs. xs ++ iw) d.words ∙ append_assoc before d.rows iw;
-    }
-
 parts_push : (ps : List Entity) (e : Entity) → flat_map entity_words (ps ++ e ∷ []) ≡ flat_map entity_words ps ++ entity_words e
 parts_push ps e = flat_map-append entity_words ps (e ∷ []) ∙ ap (λ ws. flat_map entity_words ps ++ ws) (append-nil (entity_words e))
-
-entity_kept : (o : Owner) (s t : Reader) (ws front : List Word) (e : Entity) → Before o s.header s.instances s.number s.parts e.keyword front → Fits e → s.outer ≡ [] → ws ≡ front ++ entity_words e → Gave (takes_entity o s e) t → Kept t ws
-entity_kept owner.Header s t ws front e b fits outer w h =
-    let z : length s.header ≡ 0 + length s.header = omega arith in
-    let hw = flat_map header_words s.header in
-    gone (record s { header = s.header ++ e ∷ []; place = FixedAt fixed.HeaderEntityEnd }) t ws (same_reader _ t h) (
-      record {
-        header = header_push 0 s.header e b.0.header (subst (λ n. ends_header n Keyword e.keyword ≡ false) z b.1) (subst (λ n. names_header_entity n Keyword e.keyword ≡ true) z b.2) fits;
-        instances = b.0.instances;
-        parts = b.0.parts;
-        words = ap (λ xs. xs ++ mark Semicolon ∷ []) w ∙ append_assoc front (entity_words e) (mark Semicolon ∷ []) ∙ ap (λ xs. xs ++ header_words e) b.0.words ∙ append_assoc opening_words hw (header_words e) ∙ ap (λ xs. opening_words ++ xs) (sym (header_words_push s.header e));
-      },
-      outer,
-    )
-entity_kept owner.Simple s t ws front e b fits outer w h =
-    let n = s.number in
-    let p = passed (has_number n s.instances) (twice n) (record s { instances = s.instances ++ (record { number = n; parts = e ∷ [] }) ∷ []; place = FixedAt fixed.InstanceEnd }) t h in
-    let iw = instance_words n (entity_words e) in
-    let same = ap (λ xs. xs ++ mark Semicolon ∷ []) (w ∙ ap (λ xs. xs ++ entity_words e) b.3 ∙ append_assoc b.0 (number_words n) (entity_words e)) ∙ append_assoc b.0 (mark (Number n) ∷ mark Equals ∷ entity_words e) (mark Semicolon ∷ []) in
-    gone _ t ws p.1 ((instance_kept s.header s.instances b.0 n (e ∷ []) iw (ws ++ mark Semicolon ∷ []) b.1 p.0 (omega arith) (fits, tt) (inl refl) same, b.2), outer)
-entity_kept owner.Complex s t ws front e b fits outer w h =
-    let ps = s.parts in
-    let n = s.number in
-    let more = length-append ps (e ∷ []) in
-    gone (record s { parts = ps ++ e ∷ []; place = NextPart }) t ws (same_reader _ t h) (
-      (
-        b.0,
-        b.1,
-        all_push Fits ps e b.2 fits,
-        omega arith,
-        w ∙ ap (λ xs. xs ++ entity_words e) b.3 ∙ append_assoc b.0 (complex_words n ps) (entity_words e) ∙ ap (λ xs. b.0 ++ mark (Number n) ∷ mark Equals ∷ mark LeftParen ∷ xs) (sym (parts_push ps e)),
-      ),
-      outer,
-    )
 
 -- Closing a list.
 
@@ -201,49 +50,199 @@ own_list_words front k outer opening ps none plain =
 outside_pushed : (front : List Word) (k : List ℕ) (outer : List OpenList) (ls : List OpenList) (l : OpenList) → outer ≡ ls ++ l ∷ [] → front ++ keyword k ∷ [] ++ flat_map begun outer ≡ (front ++ keyword k ∷ [] ++ flat_map begun ls) ++ begun l
 outside_pushed front k outer ls l e = ap (λ xs. front ++ keyword k ∷ [] ++ flat_map begun xs) e ∙ ap (λ xs. front ++ keyword k ∷ [] ++ xs) (begun_push ls l) ∙ sym (append_assoc (front ++ keyword k ∷ []) (flat_map begun ls) (begun l))
 
--- what is known where the innermost list is closed
-pub record Closing (s : Reader) (ws : List Word) : Type 0 where
-  pub front : List Word
-  pub before : IsBefore s front
-  pub around : AllAround 1 s.outer
-  pub head : HeadPlain (s.outer ++ s.list ∷ [])
-  pub depth : length s.outer + 1 ≤ 64
-  pub all : AllFitAt (1 + length s.outer) s.list.params
-  pub fits : FitsAt (length s.outer) (list_param s.list)
-  pub words : ws ≡ outside s front ++ param_words (list_param s.list)
+module _ (limit : ℕ) where
+  -- a step that goes to this reader
+  pub gone : (s t : Reader) (ws : List Word) → s ≡ t → Kept limit s ws → Kept limit t ws
+  gone s t ws e k = subst (λ r. Kept limit r ws) e k
 
-closed_outer : (s t : Reader) (ws : List Word) → Closing s ws → s.outer ≡ [] → Gave (closes_in s None) t → Kept t ws
-closed_outer s t ws k none h =
-    let ps = s.list.params in
-    let e : Entity = record { keyword = s.keyword; params = ps } in
-    let depth = ap (λ ls. 1 + length {A = OpenList} ls) none in
-    let all : AllFitAt 1 ps = subst (λ d. AllFitAt d ps) (let z : 1 + length s.outer ≡ 1 = omega arith in z) k.all in
-    let plain = subst (λ ls. HeadPlain (ls ++ s.list ∷ [])) none k.head in
-    entity_kept s.owner (record s { keyword = []; list = empty_list Plain }) t ws k.front e k.before (all_within 1 ps (omega arith) all, all_whole 1 ps all) none (k.words ∙ own_list_words k.front s.keyword s.outer s.list.opening ps none plain) h
+  -- Words that the grammar fixes.
 
-closed_inner : (s t : Reader) (ws : List Word) (ls : List OpenList) (l : OpenList) → Closing s ws → s.outer ≡ ls ++ l ∷ [] → Gave (closes_in s (Some (ls, l))) t → Kept t ws
-closed_inner s t ws ls l k e h =
-    let p = list_param s.list in
-    let r = record s { outer = ls; list = l } in
-    let count = ap length e ∙ length-append ls (l ∷ []) in
-    let popped = around_pop 1 ls l (subst (AllAround 1) e k.around) in
-    let inside : InList r (outside r k.front ++ begun l) = record {
-      front = k.front;
-      before = k.before;
-      around = popped.0;
-      head = head_pop ls l s.list (subst (λ os. HeadPlain (os ++ s.list ∷ [])) e k.head);
-      depth = (let d = k.depth in omega arith);
-      list = popped.1;
-      words = refl;
-    } in
-    let fits : FitsAt (1 + length ls) p = subst (λ d. FitsAt d p) (let z : length s.outer ≡ 1 + length ls = omega arith in z) k.fits in
-    let here = outside_pushed k.front s.keyword s.outer ls l e in
-    let kept = param_kept r (outside r k.front ++ begun l) (param_words p) p inside refl fits in
-    gone (takes_param r p) t ws (same_reader _ t h) (subst (Kept (takes_param r p)) (sym (k.words ∙ ap (λ xs. xs ++ param_words p) here)) kept)
+  pub fixed_kept : (f : Fixed) (s : Reader) (t : Token) (v text : List ℕ) (ws : List Word) → Carries t text v → accepts f t v ≡ true → FixedKept limit f s ws → s.outer ≡ [] → Kept limit (record s { place = place_after f }) (ws ++ word t v ∷ [])
+  fixed_kept fixed.FileStart s t v text ws c a k o = ((k.0, grown ws [] [] (word t v) _ k.1 (file_start_word t v text c a)), o)
+  fixed_kept fixed.FileStartEnd s t v text ws c a k o = ((k.0, grown ws [] (mark FileStart ∷ []) (word t v) _ k.1 (semicolon_word t v text c a)), o)
+  fixed_kept fixed.Header s t v text ws c a k o = ((k.0, grown ws [] (mark FileStart ∷ mark Semicolon ∷ []) (word t v) _ k.1 (named_word t v _ a)), o)
+  fixed_kept fixed.HeaderEnd s t v text ws c a k o =
+      let e = grown ws [] (mark FileStart ∷ mark Semicolon ∷ keyword (codes "HEADER") ∷ []) (word t v) _ k.1 (semicolon_word t v text c a) in (
+        record {
+          header = subst (HeaderFrom limit 0) (sym k.0.0) tt;
+          instances = k.0.1;
+          parts = k.0.2;
+          words = e ∙ ap (λ h. opening_words ++ flat_map header_words h) (sym k.0.0);
+        },
+        o,
+      )
+  fixed_kept fixed.HeaderEntityEnd s t v text ws c a k o =
+      let e = ap (λ w. ws ++ w ∷ []) (sym (semicolon_word t v text c a)) in
+      (record { header = k.header; instances = k.instances; parts = k.parts; words = sym e ∙ k.words }, o)
+  fixed_kept fixed.HeaderSectionEnd s t v text ws c a k o = ((k.0, k.1, k.2, grown ws k.0 _ (word t v) _ k.3 (semicolon_word t v text c a)), o)
+  fixed_kept fixed.Data s t v text ws c a k o = ((k.0, k.1, k.2, grown ws k.0 _ (word t v) _ k.3 (named_word t v _ a)), o)
+  fixed_kept fixed.DataEnd s t v text ws c a k o =
+      let h = k.1 in
+      let e = grown ws k.0 _ (word t v) _ k.3 (semicolon_word t v text c a) in (
+        (
+          record {
+            rows = [];
+            header = h.header;
+            three = k.2;
+            derived = subst (λ is. AreDataWords is []) (sym h.instances) refl;
+            some = subst (AllByRecursion HasPart) (sym h.instances) tt;
+            fit = subst (AllFit limit) (sym h.instances) tt;
+            differ = subst NumbersDiffer (sym h.instances) tt;
+            words = e ∙ ap (λ xs. xs ++ middle_words) h.words ∙ sym (append-nil (opening_words ++ flat_map header_words s.header ++ middle_words));
+          },
+          h.parts,
+        ),
+        o,
+      )
+  fixed_kept fixed.Equals s t v text ws c a k o = ((k.0, k.1, k.2, grown ws k.0 _ (word t v) _ k.3 (equals_word t v text c a), k.4), o)
+  fixed_kept fixed.InstanceEnd s t v text ws c a k o =
+      let d = k.0 in
+      let e = ap (λ w. ws ++ w ∷ []) (sym (semicolon_word t v text c a)) in
+      ((record { rows = d.rows; header = d.header; three = d.three; derived = d.derived; some = d.some; fit = d.fit; differ = d.differ; words = sym e ∙ d.words }, k.1), o)
+  fixed_kept fixed.DataSectionEnd s t v text ws c a k o = ((k.0, k.1, k.2, grown ws k.0 _ (word t v) _ k.3 (semicolon_word t v text c a)), o)
+  fixed_kept fixed.FileEnd s t v text ws c a k o = ((k.0, k.1, k.2, grown ws k.0 _ (word t v) _ k.3 (file_end_word t v text c a)), o)
+  fixed_kept fixed.FileEndEnd s t v text ws c a k o = ((k.0, k.1, k.2, grown ws k.0 _ (word t v) _ k.3 (semicolon_word t v text c a)), o)
 
-pub closed_kept : (s t : Reader) (ws : List Word) → Closing s ws → Gave (closes s) t → Kept t ws
-closed_kept s t ws k h =
-    ⊎_elim
-    (λ c. closed_outer s t ws k c.0 (subst (λ o. Gave (closes_in s o) t) c.1 h))
-    (λ c. closed_inner s t ws c.0 c.1 k c.2 (subst (λ o. Gave (closes_in s o) t) c.3 h))
-    (parted_cases s.outer)
+  -- Lists.
+
+  -- a parameter that is one or more words
+  pub param_kept : (s : Reader) (ws more : List Word) (p : Param) → InList limit s ws → param_words p ≡ more → FitsAt limit (1 + length s.outer) p → Kept limit (takes_param s p) (ws ++ more)
+  param_kept s ws more p k e fits =
+      let l = s.list in
+      let before = outside s k.front in (
+        record {
+          front = k.front;
+          before = k.before;
+          around = k.around;
+          head = head_same s.outer l (list_with l p) refl k.head;
+          depth = k.depth;
+          params = l.params;
+          last = p;
+          all = refl;
+          one = k.list.0;
+          fit = fit_push limit (1 + length s.outer) l.params p k.list.1 fits;
+          words = ap (λ xs. xs ++ more) k.words ∙ append_assoc before (begun l) more ∙ ap (λ xs. before ++ xs) (append_assoc (lead l.opening) (comma_words l.params) more ∙ ap (λ xs. lead l.opening ++ (comma_words l.params ++ xs)) (sym e));
+        },
+        tt,
+      )
+
+  list_kept : (opening : Opening) (s : Reader) (ws : List Word) → InList limit s ws → length s.outer + 1 < limit → InList limit (opened opening s) (ws ++ lead opening)
+  list_kept opening s ws k room =
+      let outer = length-append s.outer (s.list ∷ []) in
+      let before = k.front ++ keyword s.keyword ∷ [] in
+      record {
+        front = k.front;
+        before = k.before;
+        around = around_push limit 1 s.outer s.list k.around k.list;
+        head = head_push s.outer s.list (empty_list opening) k.head;
+        depth = omega arith;
+        list = (λ e. refl, tt);
+        words = ap (λ xs. xs ++ lead opening) (k.words ∙ append_assoc before (flat_map begun s.outer) (begun s.list) ∙ ap (λ xs. before ++ xs) (sym (begun_push s.outer s.list))) ∙ ap (λ xs. (before ++ flat_map begun (s.outer ++ s.list ∷ [])) ++ xs) (sym (append-nil (lead opening)));
+      }
+
+  pub opened_kept : (opening : Opening) (s t : Reader) (ws : List Word) → InList limit s ws → Gave (opens limit opening s) t → Kept limit t (ws ++ lead opening)
+  opened_kept Plain s t ws k h =
+      let w = went (nat_lt (length s.outer + 1) limit) deep (opened Plain s) t h in
+      gone (opened Plain s) t _ w.1 ((list_kept Plain s ws k (ltb-true _ _ w.0), refl), tt)
+  opened_kept (Typed name) s t ws k h =
+      let w = went (nat_lt (length s.outer + 1) limit) deep (opened (Typed name) s) t h in
+      gone (opened (Typed name) s) t _ w.1 (list_kept (Typed name) s ws k (ltb-true _ _ w.0), tt)
+
+  -- Entities and instances.
+
+  pub instance_kept : (h : List Entity) (is : List Instance) (front : List Word) (n : ℕ) (ps : List Entity) (iw ws : List Word) → InData limit h is front → has_number n is ≡ false → 0 < length ps → AllByRecursion (Fits limit) ps → AreInstanceWords (record { number = n; parts = ps }) iw → ws ≡ front ++ iw → InData limit h (is ++ (record { number = n; parts = ps }) ∷ []) ws
+  instance_kept h is front n ps iw ws d new some fit derived e =
+      let i : Instance = record { number = n; parts = ps } in
+      let before = opening_words ++ flat_map header_words h ++ middle_words in
+      record {
+        rows = d.rows ++ iw;
+        header = d.header;
+        three = d.three;
+        derived = data_push is i d.rows iw d.derived derived;
+        some = all_push HasPart is i d.some some;
+        fit = all_push (λ j. AllByRecursion (Fits limit) j.parts) is i d.fit fit;
+        differ = differ_push is i d.differ (not_has_number n is new);
+        words = e ∙ ap (λ xs. xs ++ iw) d.words ∙ append_assoc before d.rows iw;
+      }
+
+  entity_kept : (o : Owner) (s t : Reader) (ws front : List Word) (e : Entity) → Before limit o s.header s.instances s.number s.parts e.keyword front → Fits limit e → s.outer ≡ [] → ws ≡ front ++ entity_words e → Gave (takes_entity o s e) t → Kept limit t ws
+  entity_kept owner.Header s t ws front e b fits outer w h =
+      let z : length s.header ≡ 0 + length s.header = omega arith in
+      let hw = flat_map header_words s.header in
+      gone (record s { header = s.header ++ e ∷ []; place = FixedAt fixed.HeaderEntityEnd }) t ws (same_reader _ t h) (
+        record {
+          header = header_push limit 0 s.header e b.0.header (subst (λ n. ends_header n Keyword e.keyword ≡ false) z b.1) (subst (λ n. names_header_entity n Keyword e.keyword ≡ true) z b.2) fits;
+          instances = b.0.instances;
+          parts = b.0.parts;
+          words = ap (λ xs. xs ++ mark Semicolon ∷ []) w ∙ append_assoc front (entity_words e) (mark Semicolon ∷ []) ∙ ap (λ xs. xs ++ header_words e) b.0.words ∙ append_assoc opening_words hw (header_words e) ∙ ap (λ xs. opening_words ++ xs) (sym (header_words_push s.header e));
+        },
+        outer,
+      )
+  entity_kept owner.Simple s t ws front e b fits outer w h =
+      let n = s.number in
+      let p = passed (has_number n s.instances) (twice n) (record s { instances = s.instances ++ (record { number = n; parts = e ∷ [] }) ∷ []; place = FixedAt fixed.InstanceEnd }) t h in
+      let iw = instance_words n (entity_words e) in
+      let same = ap (λ xs. xs ++ mark Semicolon ∷ []) (w ∙ ap (λ xs. xs ++ entity_words e) b.3 ∙ append_assoc b.0 (number_words n) (entity_words e)) ∙ append_assoc b.0 (mark (Number n) ∷ mark Equals ∷ entity_words e) (mark Semicolon ∷ []) in
+      gone _ t ws p.1 ((instance_kept s.header s.instances b.0 n (e ∷ []) iw (ws ++ mark Semicolon ∷ []) b.1 p.0 (omega arith) (fits, tt) (inl refl) same, b.2), outer)
+  entity_kept owner.Complex s t ws front e b fits outer w h =
+      let ps = s.parts in
+      let n = s.number in
+      let more = length-append ps (e ∷ []) in
+      gone (record s { parts = ps ++ e ∷ []; place = NextPart }) t ws (same_reader _ t h) (
+        (
+          b.0,
+          b.1,
+          all_push (Fits limit) ps e b.2 fits,
+          omega arith,
+          w ∙ ap (λ xs. xs ++ entity_words e) b.3 ∙ append_assoc b.0 (complex_words n ps) (entity_words e) ∙ ap (λ xs. b.0 ++ mark (Number n) ∷ mark Equals ∷ mark LeftParen ∷ xs) (sym (parts_push ps e)),
+          b.4,
+        ),
+        outer,
+      )
+
+  -- what is known where the innermost list is closed
+  pub record Closing (s : Reader) (ws : List Word) : Type 0 where
+    pub front : List Word
+    pub before : IsBefore limit s front
+    pub around : AllAround limit 1 s.outer
+    pub head : HeadPlain (s.outer ++ s.list ∷ [])
+    pub depth : length s.outer + 1 ≤ limit
+    pub all : AllFitAt limit (1 + length s.outer) s.list.params
+    pub fits : FitsAt limit (length s.outer) (list_param s.list)
+    pub words : ws ≡ outside s front ++ param_words (list_param s.list)
+
+  closed_outer : (s t : Reader) (ws : List Word) → Closing s ws → s.outer ≡ [] → Gave (closes_in s None) t → Kept limit t ws
+  closed_outer s t ws k none h =
+      let ps = s.list.params in
+      let e : Entity = record { keyword = s.keyword; params = ps } in
+      let depth = ap (λ ls. 1 + length {A = OpenList} ls) none in
+      let all : AllFitAt limit 1 ps = subst (λ d. AllFitAt limit d ps) (let z : 1 + length s.outer ≡ 1 = omega arith in z) k.all in
+      let plain = subst (λ ls. HeadPlain (ls ++ s.list ∷ [])) none k.head in
+      entity_kept s.owner (record s { keyword = []; list = empty_list Plain }) t ws k.front e k.before (all_within limit 1 ps (omega arith) all, all_whole limit 1 ps all) none (k.words ∙ own_list_words k.front s.keyword s.outer s.list.opening ps none plain) h
+
+  closed_inner : (s t : Reader) (ws : List Word) (ls : List OpenList) (l : OpenList) → Closing s ws → s.outer ≡ ls ++ l ∷ [] → Gave (closes_in s (Some (ls, l))) t → Kept limit t ws
+  closed_inner s t ws ls l k e h =
+      let p = list_param s.list in
+      let r = record s { outer = ls; list = l } in
+      let count = ap length e ∙ length-append ls (l ∷ []) in
+      let popped = around_pop limit 1 ls l (subst (AllAround limit 1) e k.around) in
+      let inside : InList limit r (outside r k.front ++ begun l) = record {
+        front = k.front;
+        before = k.before;
+        around = popped.0;
+        head = head_pop ls l s.list (subst (λ os. HeadPlain (os ++ s.list ∷ [])) e k.head);
+        depth = (let d = k.depth in omega arith);
+        list = popped.1;
+        words = refl;
+      } in
+      let fits : FitsAt limit (1 + length ls) p = subst (λ d. FitsAt limit d p) (let z : length s.outer ≡ 1 + length ls = omega arith in z) k.fits in
+      let here = outside_pushed k.front s.keyword s.outer ls l e in
+      let kept = param_kept r (outside r k.front ++ begun l) (param_words p) p inside refl fits in
+      gone (takes_param r p) t ws (same_reader _ t h) (subst (Kept limit (takes_param r p)) (sym (k.words ∙ ap (λ xs. xs ++ param_words p) here)) kept)
+
+  pub closed_kept : (s t : Reader) (ws : List Word) → Closing s ws → Gave (closes s) t → Kept limit t ws
+  closed_kept s t ws k h =
+      ⊎_elim
+      (λ c. closed_outer s t ws k c.0 (subst (λ o. Gave (closes_in s o) t) c.1 h))
+      (λ c. closed_inner s t ws c.0 c.1 k c.2 (subst (λ o. Gave (closes_in s o) t) c.3 h))
+      (parted_cases s.outer)

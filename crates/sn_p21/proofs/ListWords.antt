@@ -59,63 +59,9 @@ closed_words opening qs p =
     ∙ ap (λ ws. lead opening ++ ws) (append_assoc (comma_words qs) (param_words p) (mark RightParen ∷ []))
     ∙ lead_closed opening qs p
 
--- a whole parameter that has room at this depth
-abbrev pub FitsAt : ℕ → Param → Type 0
-FitsAt depth p = IsTrue (is_whole p) × (nesting p + depth ≤ 64)
-
-abbrev pub AllFitAt : ℕ → List Param → Type 0
-AllFitAt depth ps = AllByRecursion (FitsAt depth) ps
-
-pub fit_push : (depth : ℕ) (ps : List Param) (p : Param) → AllFitAt depth ps → FitsAt depth p → AllFitAt depth (ps ++ p ∷ [])
-fit_push depth [] p all one = (one, tt)
-fit_push depth (q ∷ ps) p all one = (all.0, fit_push depth ps p all.1 one)
-
 and_true : (a b : Bool) → a ≡ true → b ≡ true → (a && b) ≡ true
 and_true true b h k = k
 and_true false b h k = h
-
-pub all_whole : (depth : ℕ) (ps : List Param) → AllFitAt depth ps → IsTrue (list_all is_whole ps)
-all_whole depth [] h = refl
-all_whole depth (p ∷ ps) h = and_true (is_whole p) (list_all is_whole ps) h.0.0 (all_whole depth ps h.1)
-
-pub all_within : (depth : ℕ) (ps : List Param) → depth ≤ 64 → AllFitAt depth ps → deepest ps + depth ≤ 64
-all_within depth [] k h = omega arith
-all_within depth (p ∷ ps) k h = let rest = all_within depth ps k h.1 in let one = h.0.1 in omega arith
-
--- a list that is closed fits within the one around it
-pub list_fits : (opening : Opening) (depth : ℕ) (qs : List Param) (p : Param) → (is_typed (record { opening = opening; params = [] }) ≡ true → qs ≡ []) → depth + 1 ≤ 64 → AllFitAt (depth + 1) (qs ++ p ∷ []) → FitsAt depth (param_of_list opening (qs ++ p ∷ []))
-list_fits Plain depth qs p one k h =
-    let ps = qs ++ p ∷ [] in
-    let n = all_within (depth + 1) ps k h in
-    (whole_list ps ∙ all_whole (depth + 1) ps h, omega (arith, nesting_list ps))
-list_fits (Typed name) depth [] p one k h =
-    let n = all_within (depth + 1) (p ∷ []) k h in
-    (whole_typed name p ∙ h.0.0, omega (arith, nesting_typed name (p ∷ [])))
-list_fits (Typed name) depth (q ∷ qs) p one k h = absurd (let e : q ∷ qs ≡ [] = one refl in cc)
-
-pub empty_fits : (depth : ℕ) → depth + 1 ≤ 64 → FitsAt depth (param.List [])
-empty_fits depth k = (whole_list [], omega (arith, nesting_list []))
-
--- a list around another: that of a typed parameter has no parameter yet
-abbrev pub Around : ℕ → OpenList → Type 0
-Around depth l = (is_typed l ≡ true → l.params ≡ []) × AllFitAt depth l.params
-
-abbrev pub AllAround : ℕ → List OpenList → Type 0
-AllAround depth [] = Unit {0}
-AllAround depth (l ∷ ls) = Around depth l × AllAround (depth + 1) ls
-
-pub around_push : (depth : ℕ) (ls : List OpenList) (l : OpenList) → AllAround depth ls → Around (depth + length ls) l → AllAround depth (ls ++ l ∷ [])
-around_push depth [] l all one = (let e : depth + length {A = OpenList} [] ≡ depth = omega arith in subst (λ d. Around d l) e one, tt)
-around_push depth (m ∷ ls) l all one =
-    let e : depth + length (m ∷ ls) ≡ depth + 1 + length ls = omega arith in
-    (all.0, around_push (depth + 1) ls l all.1 (subst (λ d. Around d l) e one))
-
-pub around_pop : (depth : ℕ) (ls : List OpenList) (l : OpenList) → AllAround depth (ls ++ l ∷ []) → AllAround depth ls × Around (depth + length ls) l
-around_pop depth [] l all = (tt, let e : depth ≡ depth + length {A = OpenList} [] = omega arith in subst (λ d. Around d l) e all.0)
-around_pop depth (m ∷ ls) l all =
-    let rest = around_pop (depth + 1) ls l all.1 in
-    let e : depth + 1 + length ls ≡ depth + length (m ∷ ls) = omega arith in
-    ((all.0, rest.0), subst (λ d. Around d l) e rest.1)
 
 -- the first of the lists is that of an entity
 abbrev pub HeadPlain : List OpenList → Type 0
@@ -142,3 +88,58 @@ parted_cases (l ∷ ls) = more (parted_cases ls)
     more : ((ls ≡ []) × (parted ls ≡ None)) ⊎ ((front : List OpenList) × (last : OpenList) × (ls ≡ front ++ last ∷ []) × (parted ls ≡ Some (front, last))) → ((l ∷ ls ≡ []) × (parted (l ∷ ls) ≡ None)) ⊎ ((front : List OpenList) × (last : OpenList) × (l ∷ ls ≡ front ++ last ∷ []) × (parted (l ∷ ls) ≡ Some (front, last)))
     more (inl e) = inr ([], l, ap (λ xs. l ∷ xs) e.0, ap (λ o. Some (parted_behind l o)) e.1)
     more (inr e) = inr (l ∷ e.0, e.1, ap (λ xs. l ∷ xs) e.2, ap (λ o. Some (parted_behind l o)) e.3)
+
+module _ (limit : ℕ) where
+  -- a whole parameter that has room at this depth
+  abbrev pub FitsAt : ℕ → Param → Type 0
+  FitsAt depth p = IsTrue (is_whole p) × (nesting p + depth ≤ limit)
+
+  abbrev pub AllFitAt : ℕ → List Param → Type 0
+  AllFitAt depth ps = AllByRecursion (FitsAt depth) ps
+
+  pub fit_push : (depth : ℕ) (ps : List Param) (p : Param) → AllFitAt depth ps → FitsAt depth p → AllFitAt depth (ps ++ p ∷ [])
+  fit_push depth [] p all one = (one, tt)
+  fit_push depth (q ∷ ps) p all one = (all.0, fit_push depth ps p all.1 one)
+
+  pub all_whole : (depth : ℕ) (ps : List Param) → AllFitAt depth ps → IsTrue (list_all is_whole ps)
+  all_whole depth [] h = refl
+  all_whole depth (p ∷ ps) h = and_true (is_whole p) (list_all is_whole ps) h.0.0 (all_whole depth ps h.1)
+
+  pub all_within : (depth : ℕ) (ps : List Param) → depth ≤ limit → AllFitAt depth ps → deepest ps + depth ≤ limit
+  all_within depth [] k h = omega arith
+  all_within depth (p ∷ ps) k h = let rest = all_within depth ps k h.1 in let one = h.0.1 in omega arith
+
+  -- a list that is closed fits within the one around it
+  pub list_fits : (opening : Opening) (depth : ℕ) (qs : List Param) (p : Param) → (is_typed (record { opening = opening; params = [] }) ≡ true → qs ≡ []) → depth + 1 ≤ limit → AllFitAt (depth + 1) (qs ++ p ∷ []) → FitsAt depth (param_of_list opening (qs ++ p ∷ []))
+  list_fits Plain depth qs p one k h =
+      let ps = qs ++ p ∷ [] in
+      let n = all_within (depth + 1) ps k h in
+      (whole_list ps ∙ all_whole (depth + 1) ps h, omega (arith, nesting_list ps))
+  list_fits (Typed name) depth [] p one k h =
+      let n = all_within (depth + 1) (p ∷ []) k h in
+      (whole_typed name p ∙ h.0.0, omega (arith, nesting_typed name (p ∷ [])))
+  list_fits (Typed name) depth (q ∷ qs) p one k h = absurd (let e : q ∷ qs ≡ [] = one refl in cc)
+
+  pub empty_fits : (depth : ℕ) → depth + 1 ≤ limit → FitsAt depth (param.List [])
+  empty_fits depth k = (whole_list [], omega (arith, nesting_list []))
+
+  -- a list around another: that of a typed parameter has no parameter yet
+  abbrev pub Around : ℕ → OpenList → Type 0
+  Around depth l = (is_typed l ≡ true → l.params ≡ []) × AllFitAt depth l.params
+
+  abbrev pub AllAround : ℕ → List OpenList → Type 0
+  AllAround depth [] = Unit {0}
+  AllAround depth (l ∷ ls) = Around depth l × AllAround (depth + 1) ls
+
+  pub around_push : (depth : ℕ) (ls : List OpenList) (l : OpenList) → AllAround depth ls → Around (depth + length ls) l → AllAround depth (ls ++ l ∷ [])
+  around_push depth [] l all one = (let e : depth + length {A = OpenList} [] ≡ depth = omega arith in subst (λ d. Around d l) e one, tt)
+  around_push depth (m ∷ ls) l all one =
+      let e : depth + length (m ∷ ls) ≡ depth + 1 + length ls = omega arith in
+      (all.0, around_push (depth + 1) ls l all.1 (subst (λ d. Around d l) e one))
+
+  pub around_pop : (depth : ℕ) (ls : List OpenList) (l : OpenList) → AllAround depth (ls ++ l ∷ []) → AllAround depth ls × Around (depth + length ls) l
+  around_pop depth [] l all = (tt, let e : depth ≡ depth + length {A = OpenList} [] = omega arith in subst (λ d. Around d l) e all.0)
+  around_pop depth (m ∷ ls) l all =
+      let rest = around_pop (depth + 1) ls l all.1 in
+      let e : depth + 1 + length ls ≡ depth + length (m ∷ ls) = omega arith in
+      ((all.0, rest.0), subst (λ d. Around d l) e rest.1)

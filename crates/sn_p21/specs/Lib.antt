@@ -1,11 +1,9 @@
 pub mod Canonical
 pub mod Content
+pub mod FirstFault
 pub mod Grammar
 pub mod Machine
 pub mod Numbers
 pub mod PartText
-pub mod Plain
-pub mod Quantity
-pub mod RealText
 pub mod Word
 pub mod Written

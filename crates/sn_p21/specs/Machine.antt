@@ -3,7 +3,6 @@ use Rattle.std.specs.Prelude.{◌≡◌, ℕ, ◌+◌, ◌-◌, Bool, true, fals
 use Rattle.std.specs.Str.{bytes_eq}
 use Rattle.sn_lex.specs.declared.token.Token.{Token}
 use Rattle.sn_lex.specs.declared.token.Token.TheVariants.{FileStart, FileEnd, Keyword, Number, Integer, Real, Text, Enumeration, Binary, LeftParen, RightParen, Comma, Semicolon, Equals, Dollar, Star}
-use Rattle.sn_p21.specs.declared.limits.TheConstants.{MAX_OPEN_LISTS}
 use Rattle.sn_p21.specs.declared.fault.P21Fault.{P21Fault}
 use Rattle.sn_p21.specs.declared.fault.P21Fault.TheVariants as fault
 use Rattle.sn_p21.specs.declared.file.Param.{Param}
@@ -174,9 +173,9 @@ abbrev pub step_own_list : Reader → Token → Step
 step_own_list s LeftParen = Ok (record s { list = empty_list Plain; place = FirstParam })
 step_own_list s _ = Err unexpected
 
--- one list more is open
-abbrev pub opens : Opening → Reader → Step
-opens opening s = cond (nat_lt (length s.outer + 1) MAX_OPEN_LISTS) (Ok (record s { outer = s.outer ++ s.list ∷ []; list = empty_list opening; place = first_place opening })) (Err deep)
+-- one list more is open, with a limit on those that are open at once
+abbrev pub opens : ℕ → Opening → Reader → Step
+opens limit opening s = cond (nat_lt (length s.outer + 1) limit) (Ok (record s { outer = s.outer ++ s.list ∷ []; list = empty_list opening; place = first_place opening })) (Err deep)
 
 abbrev pub list_with : OpenList → Param → OpenList
 list_with list p = record list { params = list.params ++ p ∷ [] }
@@ -188,14 +187,14 @@ abbrev pub takes_value : Reader → Option Param → Step
 takes_value s None = Err unexpected
 takes_value s (Some p) = Ok (takes_param s p)
 
-abbrev pub step_param : Reader → Token → List ℕ → Step
-step_param s Keyword value = Ok (record s { typed = value; place = TypedList })
-step_param s LeftParen value = opens Plain s
-step_param s t value = takes_value s (value_param t value)
+abbrev pub step_param : ℕ → Reader → Token → List ℕ → Step
+step_param limit s Keyword value = Ok (record s { typed = value; place = TypedList })
+step_param limit s LeftParen value = opens limit Plain s
+step_param limit s t value = takes_value s (value_param t value)
 
-abbrev pub step_typed_list : Reader → Token → Step
-step_typed_list s LeftParen = opens (Typed s.typed) (record s { typed = [] })
-step_typed_list s _ = Err unexpected
+abbrev pub step_typed_list : ℕ → Reader → Token → Step
+step_typed_list limit s LeftParen = opens limit (Typed s.typed) (record s { typed = [] })
+step_typed_list limit s _ = Err unexpected
 
 -- an instance with its parts goes to the others
 abbrev pub takes_instance : Reader → List Entity → Step
@@ -223,9 +222,9 @@ closes_in s (Some around) = Ok (takes_param (record s { outer = around.0; list =
 abbrev pub closes : Reader → Step
 closes s = closes_in s (parted s.outer)
 
-abbrev pub step_first_param : Reader → Token → List ℕ → Step
-step_first_param s RightParen value = closes s
-step_first_param s t value = step_param s t value
+abbrev pub step_first_param : ℕ → Reader → Token → List ℕ → Step
+step_first_param limit s RightParen value = closes s
+step_first_param limit s t value = step_param limit s t value
 
 abbrev pub step_after_param : Reader → Token → Step
 step_after_param s Comma = cond (is_typed s.list) (Err unexpected) (goes NextParam s)
@@ -249,22 +248,23 @@ abbrev pub step_next_part : Reader → Token → List ℕ → Step
 step_next_part s RightParen value = takes_instance (record s { parts = [] }) s.parts
 step_next_part s t value = step_first_part s t value
 
-abbrev pub step_at : Place → Reader → Token → List ℕ → Step
-step_at (FixedAt f) s t value = step_fixed f s t value
-step_at HeaderEntity s t value = step_header_entity s t value
-step_at OwnList s t value = step_own_list s t
-step_at FirstParam s t value = step_first_param s t value
-step_at NextParam s t value = step_param s t value
-step_at AfterParam s t value = step_after_param s t
-step_at TypedList s t value = step_typed_list s t
-step_at InstanceAt s t value = step_instance s t value
-step_at Body s t value = step_body s t value
-step_at FirstPart s t value = step_first_part s t value
-step_at NextPart s t value = step_next_part s t value
-step_at Done s t value = Err unexpected
+abbrev pub step_at : ℕ → Place → Reader → Token → List ℕ → Step
+step_at limit (FixedAt f) s t value = step_fixed f s t value
+step_at limit HeaderEntity s t value = step_header_entity s t value
+step_at limit OwnList s t value = step_own_list s t
+step_at limit FirstParam s t value = step_first_param limit s t value
+step_at limit NextParam s t value = step_param limit s t value
+step_at limit AfterParam s t value = step_after_param s t
+step_at limit TypedList s t value = step_typed_list limit s t
+step_at limit InstanceAt s t value = step_instance s t value
+step_at limit Body s t value = step_body s t value
+step_at limit FirstPart s t value = step_first_part s t value
+step_at limit NextPart s t value = step_next_part s t value
+step_at limit Done s t value = Err unexpected
 
-abbrev pub step : Reader → Token → List ℕ → Step
-step s t value = step_at s.place s t value
+-- with a limit on the lists and typed parameters that are open at once
+abbrev pub step : ℕ → Reader → Token → List ℕ → Step
+step limit s t value = step_at limit s.place s t value
 
 -- What a function of the reader answers for a step.
 

@@ -1,5 +1,6 @@
 -- Part texts.
 use Rattle.std.specs.Prelude.{◌≡◌, ℕ, List}
+use Rattle.sn_p21.specs.Canonical.{canonical_text}
 use Rattle.sn_p21.specs.Content.{Content}
 use Rattle.sn_p21.specs.Grammar.{AreFileWords, IsFile}
 use Rattle.sn_p21.specs.Word.{Word, AreWords}
@@ -14,3 +15,7 @@ pub record IsPartText (bytes : List ℕ) (f : Content) : Type 0 where
 -- one text is one file
 abbrev pub OneFile : Type 0
 OneFile = (bytes : List ℕ) (f g : Content) → IsPartText bytes f → IsPartText bytes g → f ≡ g
+
+-- the canonical text of a file is a part text of it
+abbrev pub ReadsCanonical : Type 0
+ReadsCanonical = (f : Content) → IsFile f → IsPartText (canonical_text f) f

@@ -5,7 +5,7 @@ use std::alloc::AllocError;
 use thiserror::Error;
 
 /// Why no file is read. Each but `Memory` has the offset at which it stands.
-#[derive(Debug, Drop, Error)]
+#[derive(Clone, Copy, Debug, PartialEq, Eq, Drop, Error)]
 pub enum P21Fault {
     /// The next token is faulty.
     #[error("a token cannot be read")]

@@ -1,23 +1,22 @@
-//! The text of a part: ISO 10303-21 clear text in this project's profile, read into a file and written from one; and
-//! the plain form of a part with one hole.
+//! The text of a part: ISO 10303-21 clear text in this project's profile, read into a file and written from one.
 #![tactic(auto)]
 
 mod fault;
 mod file;
 mod grammar;
 mod instances;
+mod laws;
 mod limits;
-mod plain;
 mod read;
 mod write;
 
 pub use fault::P21Fault;
 pub use file::{Bytes, Entities, Entity, File, Instance, Param, Params};
 pub use instances::Instances;
+pub use laws::reads_canonical;
 pub use limits::MAX_OPEN_LISTS;
-pub use plain::{Plain, one_plain, read_plain};
-pub use read::{one_file, read_file};
-pub use write::write_file;
+pub use read::{one_fault, one_file, read_file};
+pub use write::{write_file, write_instances};
 
 #[cfg(test)]
 mod tests;

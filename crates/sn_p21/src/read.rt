@@ -1,7 +1,8 @@
 //! Reading a part text.
 
-ghost use Rattle.std.specs.Prelude.{◌≡◌, ◌↔◌, IfOk, IfErr, IsTrue, MatchResult};
+ghost use Rattle.std.specs.Prelude.{◌≡◌, ◌≢◌, ◌↔◌, ◌⊎◌, IfOk, IfErr, IsTrue, MatchResult};
 ghost use Rattle.sn_p21.specs.Content.{Content};
+ghost use Rattle.sn_p21.specs.FirstFault.{IsFirstFault, OneFault};
 ghost use Rattle.sn_p21.specs.Grammar.{IsFile};
 ghost use Rattle.sn_p21.specs.Machine.{is_done};
 ghost use Rattle.sn_p21.specs.PartText.{IsPartText, OneFile};
@@ -12,14 +13,16 @@ use crate::grammar::Reader;
 use sn_lex::{Token, next_token, one_next, tokens_have_bytes};
 use std::alloc::Global;
 
-/// The file of a part text.
+/// The file of a part text, or the first fault of other bytes.
 pub fn read_file(alloc: Global, bytes: &[u8]) -> Result<File, P21Fault>
     ensures found { IfOk result (λ f. IsPartText bytes.now f) }
-    // A part text is read, unless memory runs out; so a refusal comes only where no file has this text.
+    ensures refused { IfErr result (λ e. e ≢ P21Fault.Memory → IsFirstFault bytes.now e) }
+    // A part text is read, and any other has its fault told, unless memory runs out.
     ensures only { (f : Content) → IsPartText bytes.now f → MatchResult result (λ g. g ≡ f) (λ e. e ≡ P21Fault.Memory) }
+    ensures fault { (why : P21Fault) → IsFirstFault bytes.now why → MatchResult result (λ g. ⊥) (λ e. (e ≡ why) ⊎ (e ≡ P21Fault.Memory)) }
 {
-    one_next();
-    tokens_have_bytes();
+    one_file();
+    one_fault();
     let mut reader = Reader::new(alloc);
     let mut at = 0;
     loop {
@@ -46,7 +49,7 @@ fn is_end(token: Token) -> bool
 fn finish(reader: Reader, at: usize) -> Result<File, P21Fault>
     requires { is_done reader → IsFile (record { header = reader.header; instances = reader.instances }) }
     ensures done { IfOk result (λ f. is_done reader × (f ≡ record { header = reader.header; instances = reader.instances })) }
-    ensures refused { IfErr result (λ e. is_done reader → ⊥) }
+    ensures refused { IfErr result (λ e. (is_done reader → ⊥) × (e ≡ P21Fault.Unexpected at)) }
 {
     if !reader.is_done() {
         return Err(P21Fault::Unexpected(at));
@@ -60,6 +63,14 @@ fn finish(reader: Reader, at: usize) -> Result<File, P21Fault>
 /// One text is one file.
 pub fn one_file()
     ensures { OneFile }
+{
+    one_next();
+    tokens_have_bytes();
+}
+
+/// Bytes have one first fault at most, and a part text has none.
+pub fn one_fault()
+    ensures { OneFault }
 {
     one_next();
     tokens_have_bytes();

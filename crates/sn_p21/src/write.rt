@@ -4,10 +4,12 @@ ghost use Rattle.std.specs.Prelude.{◌≡◌, ◌++◌, ◌∷◌, [], IfOk, On
 ghost use Rattle.sn_lex.specs.Form.{doubled};
 ghost use Rattle.sn_p21.specs.Canonical.{canonical_text, words_text};
 ghost use Rattle.sn_p21.specs.Grammar.{param_words, list_words, entity_words, instance_words, parts_words, header_words};
+ghost use Rattle.sn_p21.specs.PartText.{IsPartText};
 ghost use Rattle.sn_p21.specs.Written.{rows_words};
 
 use crate::file::{Bytes, Entity, File, Instance, Param};
 use crate::instances::Instances;
+use crate::laws::reads_canonical;
 use itoa::Buffer;
 use sn_geom::Memory;
 use sqlite_items::Items;
@@ -15,14 +17,25 @@ use std::alloc::Global;
 
 /// The canonical text of a file.
 pub fn write_file(alloc: Global, f: &File) -> Result<Bytes, Memory>
-    ensures { IfOk result (λ written. written ≡ canonical_text f.now) }
+    ensures text { IfOk result (λ written. written ≡ canonical_text f.now) }
+    ensures read_back { IfOk result (λ written. IsPartText written f.now) }
 {
+    reads_canonical();
     let mut out = Vec::new(alloc);
     put(&mut out, b"ISO-10303-21;\nHEADER;\n")?;
     put_header(&mut out, f.header.as_slice())?;
     put(&mut out, b"ENDSEC;\nDATA;\n")?;
     put_instances(&mut out, &f.instances)?;
     put(&mut out, b"ENDSEC;\nEND-ISO-10303-21;\n")?;
+    Ok(Items::from_vec(out))
+}
+
+/// The canonical text of instances: the lines of a file's data section.
+pub fn write_instances(alloc: Global, instances: &Instances) -> Result<Bytes, Memory>
+    ensures { IfOk result (λ written. written ≡ words_text (rows_words instances.now)) }
+{
+    let mut out = Vec::new(alloc);
+    put_instances(&mut out, instances)?;
     Ok(Items::from_vec(out))
 }
 

@@ -14,7 +14,7 @@ use Rattle.sn_geom.specs.declared.limits.TheConstants.{GAP}
 use Rattle.sn_geom.specs.declared.units.Cell.{Cell}
 use Rattle.sn_geom.specs.declared.units.Pt.{Pt}
 use Rattle.sn_geom.specs.declared.units.Pt3.{Pt3}
-use Rattle.sn_p21.specs.declared.plain.part.Plain.{Plain}
+use Rattle.sn_plain.specs.declared.part.Plain.{Plain}
 use Rattle.stepmill.specs.Job.{Job, Step}
 use Rattle.stepmill.specs.Region.{Node, place, node_of, low_end, InAllowed, IsAllowed, IsRequiredBy, IsRequiredHeight, IsRequiredCell}
 use Rattle.stepmill.specs.Machine.{Act}

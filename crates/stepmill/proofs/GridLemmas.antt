@@ -6,9 +6,9 @@ use Rattle.std.proofs.lemmas.Int.{ints, unsigned_abs-mul, int_max_is}
 use Rattle.sn_geom.proofs.Ring.{sums}
 use Rattle.sn_geom.specs.Length.{IsLength}
 use Rattle.sn_geom.specs.declared.limits.TheConstants.{REACH}
-use Rattle.sn_p21.specs.Quantity.{IsBetween}
-use Rattle.sn_p21.specs.declared.plain.part.Plain.{Plain}
-use Rattle.sn_p21.specs.declared.plain.limits.TheConstants.{LEAST_DIAMETER, GREATEST_DIAMETER}
+use Rattle.sn_plain.specs.Quantity.{IsBetween}
+use Rattle.sn_plain.specs.declared.part.Plain.{Plain}
+use Rattle.sn_plain.specs.declared.limits.TheConstants.{LEAST_DIAMETER, GREATEST_DIAMETER}
 use Rattle.std.proofs.Math.Nat.{mul_comm}
 use Rattle.stepmill.specs.Job.{Job}
 use Rattle.stepmill.specs.Command.{IsPitch}

@@ -10,9 +10,9 @@ use Rattle.sn_geom.specs.Length.{IsLength}
 use Rattle.sn_geom.specs.declared.units.Pt.{Pt}
 use Rattle.sn_geom.specs.declared.units.Pt3.{Pt3}
 use Rattle.sn_geom.specs.declared.limits.TheConstants.{GAP, REACH}
-use Rattle.sn_p21.specs.Quantity.{IsBetween}
-use Rattle.sn_p21.specs.declared.plain.limits.TheConstants.{LEAST_DIAMETER, GREATEST_DIAMETER}
-use Rattle.sn_p21.specs.declared.plain.part.Plain.{Plain}
+use Rattle.sn_plain.specs.Quantity.{IsBetween}
+use Rattle.sn_plain.specs.declared.limits.TheConstants.{LEAST_DIAMETER, GREATEST_DIAMETER}
+use Rattle.sn_plain.specs.declared.part.Plain.{Plain}
 use Rattle.stepmill.specs.Job.{tip_floor}
 use Rattle.stepmill.specs.Plan.{Move, end_of, made, same_place, over}
 use Rattle.stepmill.specs.Plan.Move.{RapidTo, FeedTo}

@@ -9,8 +9,8 @@ use Rattle.sn_gwrite.specs.declared.kept.MotionMode.TheVariants.{Rapid}
 use Rattle.sn_gwrite.specs.declared.kept.Tip.TheVariants.{Unknown, Height, At}
 use Rattle.sn_gwrite.specs.Kept.{IsRate}
 use Rattle.sn_gwrite.specs.Program.{head_text, mark_text, change_text, rates_text, motion_text, end_text}
-use Rattle.sn_p21.specs.declared.plain.part.Plain.{Plain}
-use Rattle.sn_p21.specs.Quantity.{IsBetween}
+use Rattle.sn_plain.specs.declared.part.Plain.{Plain}
+use Rattle.sn_plain.specs.Quantity.{IsBetween}
 use Rattle.stepmill.specs.Job.{Job}
 use Rattle.stepmill.specs.Plan.{Move, over, same_place}
 use Rattle.stepmill.specs.Plan.Move.{RapidTo, FeedTo}

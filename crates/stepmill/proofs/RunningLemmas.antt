@@ -1,16 +1,14 @@
 -- What was read of a part and the whole of it, and how a command ends.
-use Rattle.std.proofs.Common.{ℕ, ◌≡◌, ◌+◌, ◌≤◌, ◌<◌, inl, inr, min, List, [], length, take, refl, sym, ap, subst, ◌∙◌, arith, IsTrue}
+use Rattle.std.proofs.Common.{ℕ, ◌≡◌, ◌+◌, ◌≤◌, ◌<◌, ◌⊎◌, inl, inr, min, List, [], length, take, refl, sym, ap, subst, ◌∙◌, arith, IsTrue}
 use Rattle.std.proofs.lemmas.List.{take_all, length-take}
 use Rattle.sn_io.specs.Files.{FilesState}
-use Rattle.sn_p21.specs.declared.plain.part.Plain.{Plain}
+use Rattle.sn_plain.specs.declared.part.Plain.{Plain}
 use Rattle.stepmill.specs.declared.status.Status.{Status}
 use Rattle.stepmill.specs.declared.status.Status.TheVariants.{Done}
 use Rattle.stepmill.specs.declared.refusal.Refusal.{Refusal}
 use Rattle.stepmill.specs.declared.refusal.Refusal.TheVariants as refused
 use Rattle.stepmill.specs.declared.reading.TheConstants.{LONGEST}
-use Rattle.sn_p21.specs.Plain.{PlainText}
-use Rattle.stepmill.specs.OneHole.{IsBuilt}
-use Rattle.std.specs.Prelude.{Some, None}
+use Rattle.sn_p21.specs.declared.fault.P21Fault.TheVariants as fault
 use Rattle.stepmill.specs.Outcome.{IsRefusedPart, IsRefusedFile, IsSoundPart, IsOutcome, IsOfDevices, Explains, refusal_text, status_of}
 
 -- a text that is not cut short by the limit is the whole
@@ -28,16 +26,23 @@ pub sound_whole : (bytes given : List ℕ) (pitch : ℕ) (p : Plain) → bytes �
 sound_whole bytes given pitch p read sound =
     subst (λ text. IsSoundPart text pitch p) (sym (whole LONGEST bytes given read sound.short)) sound
 
-pub refused_whole : (before after : FilesState) (name bytes : List ℕ) (pitch : ℕ) (refusal : Refusal)
+refused_part_whole : (before after : FilesState) (name bytes : List ℕ) (pitch : ℕ) (refusal : Refusal)
     → (IsTrue before.tells → bytes ≡ take (LONGEST + 1) (before.given name 0)) → IsRefusedPart bytes pitch refusal → IsRefusedFile before after name pitch refusal
-refused_whole before after name bytes pitch (refused.Word place) read why = why
-refused_whole before after name bytes pitch refused.NotRead read why = absurd why
-refused_whole before after name bytes pitch refused.NoMemory read why = tt
-refused_whole before after name bytes pitch refused.TooLong read why = λ told. longer LONGEST bytes (before.given name 0) (read told) why
-refused_whole before after name bytes pitch refused.FormNotBuilt read why = λ told.
+refused_part_whole before after name bytes pitch (refused.Word place) read why = why
+refused_part_whole before after name bytes pitch refused.NotRead read why = absurd why
+refused_part_whole before after name bytes pitch refused.NoMemory read why = tt
+refused_part_whole before after name bytes pitch refused.TooLong read why = λ told. longer LONGEST bytes (before.given name 0) (read told) why
+refused_part_whole before after name bytes pitch (refused.Text f) read why = λ told.
+    subst (λ text. IsRefusedPart text pitch (refused.Text f)) (sym (whole LONGEST bytes (before.given name 0) (read told) why.0)) why
+refused_part_whole before after name bytes pitch refused.FormNotBuilt read why = λ told.
     subst (λ text. IsRefusedPart text pitch refused.FormNotBuilt) (sym (whole LONGEST bytes (before.given name 0) (read told) why.0)) why
-refused_whole before after name bytes pitch refused.TooSmall read why = λ told.
-    subst (λ text. IsRefusedPart text pitch refused.TooSmall) (sym (whole LONGEST bytes (before.given name 0) (read told) why.1)) why
+refused_part_whole before after name bytes pitch refused.TooSmall read why = λ told.
+    subst (λ text. IsRefusedPart text pitch refused.TooSmall) (sym (whole LONGEST bytes (before.given name 0) (read told) why.0)) why
+
+pub refused_whole : (before after : FilesState) (name bytes : List ℕ) (pitch : ℕ) (refusal : Refusal)
+    → (IsTrue before.tells → bytes ≡ take (LONGEST + 1) (before.given name 0)) → (refusal ≡ refused.NoMemory) ⊎ IsRefusedPart bytes pitch refusal → IsRefusedFile before after name pitch refusal
+refused_whole before after name bytes pitch refusal read (inl e) = subst (IsRefusedFile before after name pitch) (sym e) tt
+refused_whole before after name bytes pitch refusal read (inr why) = refused_part_whole before after name bytes pitch refusal read why
 
 -- the outcome of a refusal
 pub refused_outcome : (words : List (List ℕ)) (before after : FilesState) (refusal : Refusal) (status : Status)
@@ -47,6 +52,11 @@ refused_outcome words before after (refused.Word place) status told same devices
 refused_outcome words before after refused.NotRead status told same devices why = absurd (devices (inl same))
 refused_outcome words before after refused.NoMemory status told same devices why = absurd (devices (inr (inr same)))
 refused_outcome words before after refused.TooLong status told same devices why = (refused.TooLong, why.1 told, refl, refl, refl)
+refused_outcome words before after (refused.Text (fault.Lex f)) status told same devices why = (refused.Text (fault.Lex f), why.1 told, refl, refl, refl)
+refused_outcome words before after (refused.Text (fault.Unexpected at)) status told same devices why = (refused.Text (fault.Unexpected at), why.1 told, refl, refl, refl)
+refused_outcome words before after (refused.Text (fault.Twice n at)) status told same devices why = (refused.Text (fault.Twice n at), why.1 told, refl, refl, refl)
+refused_outcome words before after (refused.Text (fault.TooDeep at)) status told same devices why = (refused.Text (fault.TooDeep at), why.1 told, refl, refl, refl)
+refused_outcome words before after (refused.Text fault.Memory) status told same devices why = absurd (devices (inr (inr same)))
 refused_outcome words before after refused.FormNotBuilt status told same devices why = (refused.FormNotBuilt, why.1 told, refl, refl, refl)
 refused_outcome words before after refused.TooSmall status told same devices why = (refused.TooSmall, why.1 told, refl, refl, refl)
 
@@ -56,15 +66,10 @@ never_done (refused.Word place) e = cc
 never_done refused.NotRead e = cc
 never_done refused.NoMemory e = cc
 never_done refused.TooLong e = cc
+never_done (refused.Text (fault.Lex f)) e = cc
+never_done (refused.Text (fault.Unexpected at)) e = cc
+never_done (refused.Text (fault.Twice n at)) e = cc
+never_done (refused.Text (fault.TooDeep at)) e = cc
+never_done (refused.Text fault.Memory) e = cc
 never_done refused.FormNotBuilt e = cc
 never_done refused.TooSmall e = cc
-
--- Why a text is refused.
-
-pub not_plain : (bytes : List ℕ) (pitch : ℕ) → length bytes ≤ LONGEST → ((p : Plain) → PlainText bytes p → None ≡ Some p) → IsRefusedPart bytes pitch refused.FormNotBuilt
-not_plain bytes pitch short only = (short, λ p text built. let e = only p text in absurd (cc))
-
-pub not_built : (bytes : List ℕ) (pitch : ℕ) (part : Plain) → length bytes ≤ LONGEST → ((p : Plain) → PlainText bytes p → Some part ≡ Some p) → ¬ IsBuilt part pitch
-    → IsRefusedPart bytes pitch refused.FormNotBuilt
-not_built bytes pitch part short only not =
-    (short, λ p text built. let e = only p text in let same : p ≡ part = cc in not (subst (λ q. IsBuilt q pitch) same built))

@@ -9,7 +9,7 @@ use Rattle.std.proofs.lemmas.Int.{ints}
 use Rattle.sn_geom.proofs.Ring.{sums}
 use Rattle.sn_geom.specs.declared.units.Pt.{Pt}
 use Rattle.sn_geom.specs.Sweep.{Disc, square}
-use Rattle.sn_p21.specs.declared.plain.part.Plain.{Plain}
+use Rattle.sn_plain.specs.declared.part.Plain.{Plain}
 use Rattle.stepmill.specs.Job.{Step}
 use Rattle.stepmill.specs.Region.{Node, place, IsRawNode, InBlock, IsRequiredBy, IsRequiredNode}
 use Rattle.stepmill.specs.OneHole.{IsSeen, hole_job, hole_step, hole_centre, hole_feature}

@@ -1,4 +1,5 @@
 pub mod Command
+pub mod FaultText
 pub mod Good
 pub mod HoleText
 pub mod Job
@@ -6,10 +7,10 @@ pub mod Line
 pub mod Machine
 pub mod Material
 pub mod OneHole
+pub mod Outcome
 pub mod Plan
 pub mod Reading
 pub mod Region
 pub mod Seen
 pub mod Text
 pub mod Window
-pub mod Outcome

@@ -4,7 +4,7 @@ use Rattle.sn_geom.specs.declared.units.Pt3.{Pt3}
 use Rattle.sn_geom.specs.declared.units.Pt.{Pt}
 use Rattle.sn_geom.specs.declared.limits.TheConstants.{NO_DEPTH, PER_MM}
 use Rattle.sn_geom.specs.Length.{IsLength}
-use Rattle.sn_p21.specs.declared.plain.part.Plain.{Plain}
+use Rattle.sn_plain.specs.declared.part.Plain.{Plain}
 use Rattle.stepmill.specs.Job.{Job, Step}
 use Rattle.stepmill.specs.Job.Outline.{Circle}
 use Rattle.stepmill.specs.Job.Bottom.{Flat}

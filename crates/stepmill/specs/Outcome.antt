@@ -1,22 +1,27 @@
 -- What a command ends with: a status, and the texts for the output and for the errors (this project's own).
-use Rattle.std.specs.Prelude.{◌≡◌, ℕ, ◌+◌, ◌≤◌, ◌<◌, ◌⊎◌, List, [], ◌++◌, length, codes, decimal, IsTrue}
+use Rattle.std.specs.Prelude.{◌≡◌, ℕ, ◌+◌, ◌≤◌, ◌<◌, ◌⊎◌, List, [], length, codes, IsTrue}
 use Rattle.sn_io.specs.Count.{Rises}
 use Rattle.sn_io.specs.Files.{FilesState}
 use Rattle.sn_io.specs.Sink.{SinkState, Takes, TakesFront}
-use Rattle.sn_p21.specs.declared.plain.part.Plain.{Plain}
-use Rattle.sn_p21.specs.Plain.{PlainText}
+use Rattle.sn_plain.specs.declared.part.Plain.{Plain}
+use Rattle.sn_p21.specs.Content.{Content}
+use Rattle.sn_p21.specs.FirstFault.{IsFirstFault}
+use Rattle.sn_p21.specs.PartText.{IsPartText}
+use Rattle.sn_plain.specs.Plain.{IsPlain}
 use Rattle.stepmill.specs.declared.status.Status.{Status}
 use Rattle.stepmill.specs.declared.status.Status.TheVariants.{Done, PartRefused, BadWords, ReadFault, WriteFault, Memory, TooLong}
 use Rattle.stepmill.specs.declared.refusal.Refusal.{Refusal}
 use Rattle.stepmill.specs.declared.refusal.Refusal.TheVariants as refused
 use Rattle.stepmill.specs.declared.reading.TheConstants.{LONGEST}
 use Rattle.stepmill.specs.Command.{IsAccepted, IsCommand, DepartsAt}
+use Rattle.stepmill.specs.FaultText.{placed_text, fault_text, fault_status}
 use Rattle.stepmill.specs.OneHole.{IsBuilt, IsSeen, hole_job, hole_plan}
 use Rattle.stepmill.specs.Text.{program_text}
 
 -- the text of a refusal
 abbrev pub refusal_text : Refusal → List ℕ
-refusal_text (refused.Word place) = codes "stepmill: word " ++ (decimal place ++ codes "\n")
+refusal_text (refused.Word place) = placed_text (codes "stepmill: word ") place
+refusal_text (refused.Text fault) = fault_text fault
 refusal_text refused.NotRead = codes "stepmill: read fault\n"
 refusal_text refused.NoMemory = codes "stepmill: memory\n"
 refusal_text refused.TooLong = codes "stepmill: too long\n"
@@ -29,8 +34,15 @@ status_of (refused.Word place) = BadWords
 status_of refused.NotRead = ReadFault
 status_of refused.NoMemory = Memory
 status_of refused.TooLong = TooLong
+status_of (refused.Text fault) = fault_status fault
 status_of refused.FormNotBuilt = PartRefused
 status_of refused.TooSmall = PartRefused
+
+-- the file asks for what is refused: it is of no form that can be compiled, or the grid sees nothing of its hole
+abbrev pub IsRefusedForm : Content → ℕ → Refusal → Type 0
+IsRefusedForm f pitch refused.FormNotBuilt = (p : Plain) → IsPlain f p → ¬ IsBuilt p pitch
+IsRefusedForm f pitch refused.TooSmall = (p : Plain) × IsPlain f p × IsBuilt p pitch × ¬ IsSeen p pitch
+IsRefusedForm f pitch _ = ⊥
 
 -- The bytes of the part ask for what is refused. A part is judged only where it is not too long.
 abbrev pub IsRefusedPart : List ℕ → ℕ → Refusal → Type 0
@@ -38,15 +50,21 @@ IsRefusedPart bytes pitch (refused.Word place) = ⊥
 IsRefusedPart bytes pitch refused.NotRead = ⊥
 IsRefusedPart bytes pitch refused.NoMemory = ⊥
 IsRefusedPart bytes pitch refused.TooLong = LONGEST < length bytes
-IsRefusedPart bytes pitch refused.FormNotBuilt = (length bytes ≤ LONGEST) × ((p : Plain) → PlainText bytes p → ¬ IsBuilt p pitch)
-IsRefusedPart bytes pitch refused.TooSmall = (p : Plain) × (length bytes ≤ LONGEST) × PlainText bytes p × IsBuilt p pitch × ¬ IsSeen p pitch
+IsRefusedPart bytes pitch (refused.Text fault) = (length bytes ≤ LONGEST) × IsFirstFault bytes fault
+IsRefusedPart bytes pitch refusal = (length bytes ≤ LONGEST) × ((f : Content) × IsPartText bytes f × IsRefusedForm f pitch refusal)
 
 -- the bytes are those of a part that is compiled
 pub record IsSoundPart (bytes : List ℕ) (pitch : ℕ) (p : Plain) : Type 0 where
   pub short : length bytes ≤ LONGEST
-  pub plain : PlainText bytes p
+  pub file : Content
+  pub text : IsPartText bytes file
+  pub plain : IsPlain file p
   pub built : IsBuilt p pitch
   pub seen : IsSeen p pitch
+
+-- a part that is compiled is not refused
+abbrev pub SoundOrRefused : Type 0
+SoundOrRefused = (bytes : List ℕ) (pitch : ℕ) (p : Plain) (refusal : Refusal) → IsSoundPart bytes pitch p → ¬ IsRefusedPart bytes pitch refusal
 
 -- the words are refused, or the part that they name
 abbrev pub IsRefusal : List (List ℕ) → (List ℕ → List ℕ) → Refusal → Type 0

@@ -6,7 +6,7 @@ ghost use Rattle.stepmill.specs.Window.{FitsGrid, IsWindowOf, half_up};
 ghost use Rattle.stepmill.specs.OneHole.{IsBuilt, hole_job, tool_length};
 
 use sn_geom::{PER_MM, REACH};
-use sn_p21::Plain;
+use sn_plain::Plain;
 
 /// The overall length of the tool in the text of a plain part.
 const TOOL_LENGTH: i32 = 80 * PER_MM as i32;

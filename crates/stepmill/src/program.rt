@@ -13,7 +13,7 @@ ghost use Rattle.stepmill.specs.Text.{program_text, moves_text};
 use sn_geom::{GAP, Pt3, Um};
 use sn_gwrite::{Emitter, Tip};
 use sn_io::{Sink, WriteFault};
-use sn_p21::Plain;
+use sn_plain::Plain;
 
 /// The instance numbers of the workingstep and of the tool in the text of a plain part.
 const WORKINGSTEP: u32 = 4;

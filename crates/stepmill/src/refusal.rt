@@ -1,11 +1,14 @@
 //! Why no program is written, and what is said of it.
 ghost use Rattle.std.specs.Prelude.{◌≡◌, ◌≢◌, ◌⊎◌, ◌++◌, codes, decimal};
 ghost use Rattle.sn_io.specs.Sink.{Takes, TakesFront, Writes};
+ghost use Rattle.stepmill.specs.FaultText.{placed_text, lex_text, fault_text};
 ghost use Rattle.stepmill.specs.Outcome.{refusal_text, status_of};
 
 use crate::status::Status;
 use itoa::Buffer;
 use sn_io::{Sink, WriteFault, write_all};
+use sn_lex::LexFault;
+use sn_p21::P21Fault;
 
 /// Why no program is written.
 #[derive(Clone, Copy, Debug, PartialEq, Eq)]
@@ -18,6 +21,8 @@ pub enum Refusal {
     NoMemory,
     /// The part's file is too long.
     TooLong,
+    /// The part's text is no part text.
+    Text(P21Fault),
     /// The part is of no form that is built.
     FormNotBuilt,
     /// The grid sees nothing of the hole.
@@ -45,7 +50,8 @@ impl Refusal {
             Refusal::NotRead => Status::ReadFault,
             Refusal::NoMemory => Status::Memory,
             Refusal::TooLong => Status::TooLong,
-            Refusal::FormNotBuilt | Refusal::TooSmall => Status::PartRefused,
+            Refusal::Text(P21Fault::Memory) => Status::Memory,
+            Refusal::Text(_) | Refusal::FormNotBuilt | Refusal::TooSmall => Status::PartRefused,
         }
     }
 }
@@ -54,20 +60,55 @@ fn write_refusal<E: Sink>(err: &mut E, refusal: Refusal) -> Result<(), WriteFaul
     ensures { Writes result (E.state err.old) (E.state err.new) (refusal_text refusal) }
 {
     match refusal {
-        Refusal::Word(place) => write_word(err, place),
+        Refusal::Word(place) => write_place(err, b"stepmill: word ", place),
         Refusal::NotRead => write_all(err, b"stepmill: read fault\n"),
         Refusal::NoMemory => write_all(err, b"stepmill: memory\n"),
         Refusal::TooLong => write_all(err, b"stepmill: too long\n"),
+        Refusal::Text(fault) => write_fault(err, fault),
         Refusal::FormNotBuilt => write_all(err, b"stepmill: part: form not built\n"),
         Refusal::TooSmall => write_all(err, b"stepmill: part: #8 too small for the grid\n"),
     }
 }
 
-fn write_word<E: Sink>(err: &mut E, place: usize) -> Result<(), WriteFault>
-    ensures { Writes result (E.state err.old) (E.state err.new) (codes "stepmill: word " ++ (decimal place ++ codes "\n")) }
+fn write_fault<E: Sink>(err: &mut E, fault: P21Fault) -> Result<(), WriteFault>
+    ensures { Writes result (E.state err.old) (E.state err.new) (fault_text fault) }
+{
+    match fault {
+        P21Fault::Lex(fault) => write_lex_fault(err, fault),
+        P21Fault::Unexpected(at) => write_place(err, b"stepmill: part: unexpected at ", at),
+        P21Fault::Twice(number, at) => write_twice(err, number, at),
+        P21Fault::TooDeep(at) => write_place(err, b"stepmill: part: too deep at ", at),
+        P21Fault::Memory => write_all(err, b"stepmill: memory\n"),
+    }
+}
+
+fn write_lex_fault<E: Sink>(err: &mut E, fault: LexFault) -> Result<(), WriteFault>
+    ensures { Writes result (E.state err.old) (E.state err.new) (lex_text fault) }
+{
+    match fault {
+        LexFault::BadByte(at) => write_place(err, b"stepmill: part: bad byte at ", at),
+        LexFault::OpenString(at) => write_place(err, b"stepmill: part: open string at ", at),
+        LexFault::OpenComment(at) => write_place(err, b"stepmill: part: open comment at ", at),
+        LexFault::BadNumber(at) => write_place(err, b"stepmill: part: bad number at ", at),
+        LexFault::BadEnum(at) => write_place(err, b"stepmill: part: bad enumeration at ", at),
+    }
+}
+
+fn write_twice<E: Sink>(err: &mut E, number: u32, at: usize) -> Result<(), WriteFault>
+    ensures { Writes result (E.state err.old) (E.state err.new) (codes "stepmill: part: #" ++ (decimal number ++ placed_text (codes " twice at ") at)) }
 {
     let mut buffer = Buffer::new();
-    write_all(err, b"stepmill: word ")?;
+    write_all(err, b"stepmill: part: #")?;
+    write_all(err, buffer.format(number).as_bytes())?;
+    write_place(err, b" twice at ", at)
+}
+
+/// Writes words, a place and the end of the line.
+fn write_place<E: Sink>(err: &mut E, words: &[u8], place: usize) -> Result<(), WriteFault>
+    ensures { Writes result (E.state err.old) (E.state err.new) (placed_text words.now place) }
+{
+    let mut buffer = Buffer::new();
+    write_all(err, words)?;
     write_all(err, buffer.format(place).as_bytes())?;
     write_all(err, b"\n")
 }

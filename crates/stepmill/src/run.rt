@@ -8,14 +8,14 @@ ghost use Rattle.stepmill.specs.OneHole.{IsBuilt, hole_job};
 ghost use Rattle.stepmill.specs.Outcome.{Ends, Explains, IsOfDevices, IsRefusedFile, IsSound, IsSoundPart, ReadsOnce, Stops, hole_program, refusal_text};
 
 use crate::command::read_command;
-use crate::part::judge;
+use crate::part::{judge, sound_or_refused};
 use crate::program::write_program;
 use crate::reading::{LONGEST, ReadRefusal, read_part};
 use crate::refusal::{Refusal, refuse};
 use crate::status::Status;
 use crate::words::Words;
 use sn_io::{Files, Sink, WriteFault};
-use sn_p21::Plain;
+use sn_plain::Plain;
 use std::alloc::Global;
 
 /// A part that is compiled, and the pitch of its grid in units of length.
@@ -63,6 +63,7 @@ pub fn run<F: Files, S: Sink, E: Sink>(
     ensures untouched { result ≢ Status.Done → result ≢ Status.WriteFault → Takes (S.state out.old) (S.state out.new) [] }
     ensures reads_once { ReadsOnce words.now (F.state files.old) (F.state files.new) }
 {
+    sound_or_refused();
     match prepare(alloc, words, files) {
         Ok(prepared) => write(out, &prepared),
         Err(refusal) => refuse(err, refusal),
@@ -110,7 +111,7 @@ fn load<F: Files>(
         → (F.state files.new).strange_opens ≡ (F.state files.old).strange_opens }
 {
     match read_part(alloc, files, name) {
-        Ok(bytes) => match judge(bytes.as_slice(), pitch) {
+        Ok(bytes) => match judge(alloc, bytes.as_slice(), pitch) {
             Ok(part) => Ok(Prepared { part, pitch }),
             Err(refusal) => Err(refusal),
         },

@@ -7,7 +7,7 @@ ghost use Rattle.stepmill.specs.Seen.{IsInCircle, IsBlockInCircle};
 
 use crate::program::length;
 use sn_geom::{Pt, REACH, Seg, Um, near};
-use sn_p21::Plain;
+use sn_plain::Plain;
 
 /// The circle of the hole, and the raw nodes: those of the columns and rows from 0 to the last ones.
 #[derive(Drop)]

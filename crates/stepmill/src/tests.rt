@@ -1,4 +1,8 @@
 //! Commands over files and sinks in memory.
+
+mod prefixes;
+
+use self::prefixes::FAULTS;
 use crate::reading::LONGEST;
 use crate::{Status, Words, run};
 use sn_io::{MemFiles, MemSink};
@@ -46,6 +50,38 @@ const AFTER_TOOL: &str = ",$,$,20.,0.,$,$);
 ENDSEC;
 END-ISO-10303-21;
 ";
+
+/// The front of a text, up to its instances.
+const OPENING: &str =
+    "ISO-10303-21;HEADER;FILE_DESCRIPTION();FILE_NAME();FILE_SCHEMA();ENDSEC;DATA;";
+
+/// The instances of the sample part in another layout, with parentheses around one of them and integers for reals.
+const LOOSE: &str = "#01 = PROJECT ( 'one' , #2 , (#3) , $ , $ , $ ) ; /* the project */
+#2=WORKPLAN('main',(#4),$,#5,$);
+#3=WORKPIECE('block',$,$,$,$,#6,());
+#4=MACHINING_WORKINGSTEP('hole',#7,#8,#9,$);
+#5=SETUP('setup',$,#7,(#10));
+#6=(BLOCK('raw',#11,20,+20.0,10.E0));
+#7=PLANE('security',#12);
+#8=ROUND_HOLE('hole',#3,(#9),#13,#14,#15,$,#16);
+#9=DRILLING($,$,'plunge',$,$,#17,#18,$,$,$,$,$,$,$);
+#10=WORKPIECE_SETUP(#3,#11,$,$,());
+#11=AXIS2_PLACEMENT_3D('origin',#19,$,$);
+#12=AXIS2_PLACEMENT_3D('security',#20,$,$);
+#13=AXIS2_PLACEMENT_3D('hole',#21,$,$);
+#14=PLANE('depth',#22);
+#15=TOLERANCED_LENGTH_MEASURE(8,$);
+#16=FLAT_HOLE_BOTTOM();
+#17=CUTTING_TOOL('mill 8',#23,(),80.,$,$);
+#18=MILLING_TECHNOLOGY(0.005,.TCP.,$,-12.,$,.F.,.F.,.F.,$);
+#19=CARTESIAN_POINT('',(0.,0.,0.));
+#20=CARTESIAN_POINT('',(0.,0.,20.));
+#21=CARTESIAN_POINT('',(10.,10.,10.));
+#22=AXIS2_PLACEMENT_3D('depth',#24,$,$);
+#23=ENDMILL(#25,4,.RIGHT.,.F.,$,$);
+#24=CARTESIAN_POINT('',(0.,0.,-6.));
+#25=MILLING_TOOL_DIMENSION(8.,$,$,20.,0.,$,$);
+ENDSEC;END-ISO-10303-21;";
 
 /// The program of the sample part at a pitch of one millimetre.
 const PROGRAM: &str = "%
@@ -111,6 +147,13 @@ fn commands_end_with_their_outcome(rt: HostRuntime) -> Result<(), Fail> {
     let small = part(&rt, "#4", "3.")?;
     let no_steps = part(&rt, "", "8.")?;
     let long = vec![in rt.alloc(); b' '; LONGEST + 1]?;
+    let mut deep = Vec::from_slice(rt.alloc(), OPENING.as_bytes())?;
+    deep.extend_from_slice(b"#1=A")?;
+    for _ in 0..65u32 {
+        deep.push(b'(')?;
+    }
+    let again = format!(in rt.alloc(); "{OPENING}#1=A();#01=B();")?;
+    let loose = format!(in rt.alloc(); "{OPENING}{}", LOOSE)?;
     let rows = [
         (
             "compile one.stp --cell 1000",
@@ -138,7 +181,35 @@ fn commands_end_with_their_outcome(rt: HostRuntime) -> Result<(), Fail> {
             b"".as_slice(),
             Status::PartRefused,
             "",
-            "stepmill: part: form not built\n",
+            "stepmill: part: unexpected at 0\n",
+        ),
+        (
+            "compile one.stp --cell 1000",
+            deep.as_slice(),
+            Status::PartRefused,
+            "",
+            "stepmill: part: too deep at 145\n",
+        ),
+        (
+            "compile one.stp --cell 1000",
+            again.as_bytes(),
+            Status::PartRefused,
+            "",
+            "stepmill: part: #1 twice at 84\n",
+        ),
+        (
+            "compile one.stp --cell 1000",
+            b"ISO-10303-21;HEADER;FILE_DESCRIPTION(('a".as_slice(),
+            Status::PartRefused,
+            "",
+            "stepmill: part: open string at 38\n",
+        ),
+        (
+            "compile one.stp --cell 1000",
+            loose.as_bytes(),
+            Status::Done,
+            PROGRAM,
+            "",
         ),
         (
             "compile one.stp --cell 1000",
@@ -188,6 +259,35 @@ fn commands_end_with_their_outcome(rt: HostRuntime) -> Result<(), Fail> {
         assert_eq!(rt; ended, status);
         assert_eq!(rt; written.as_slice(), out.as_bytes());
         assert_eq!(rt; told.as_slice(), err.as_bytes());
+    }
+    Ok(())
+}
+
+/// The words of the first fault of a proper prefix of the sample part, and its offset.
+fn first_fault(length: usize) -> (&'static str, usize) {
+    for (least, greatest, words, at) in FAULTS {
+        if least <= length && length <= greatest {
+            return (words, at);
+        }
+    }
+    ("unexpected", length)
+}
+
+#[test]
+fn prefixes_end_with_their_first_fault(rt: HostRuntime) -> Result<(), Fail> {
+    let sample = part(&rt, "#4", "8.")?;
+    for length in 0..sample.len().saturating_sub(1) {
+        let (words, at) = first_fault(length);
+        let (ended, _, told) = ends(
+            &rt,
+            "compile one.stp --cell 1000",
+            &sample[..length],
+            None,
+            None,
+        )?;
+        let expected = format!(in rt.alloc(); "stepmill: part: {words} at {at}\n")?;
+        assert_eq!(rt; ended, Status::PartRefused);
+        assert_eq!(rt; told.as_slice(), expected.as_bytes());
     }
     Ok(())
 }

@@ -3,6 +3,7 @@
 ghost use Rattle.std.specs.Prelude.{◌≡◌, ◌↔◌, [], IsTrue};
 ghost use Rattle.sn_p21.specs.Machine as spec;
 ghost use Rattle.sn_p21.specs.Machine.{Steps, Gives, value_of};
+ghost use Rattle.sn_p21.specs.declared.limits.TheConstants.{MAX_OPEN_LISTS};
 
 use crate::fault::P21Fault;
 use crate::file::{Bytes, Entities, Entity, Instance, Param, Params};
@@ -71,7 +72,7 @@ impl Reader {
         text: &[u8],
         at: usize,
     ) -> Result<(), P21Fault>
-        ensures { Steps (spec.step self.old token (value_of token text.now)) at result self.new }
+        ensures { Steps (spec.step MAX_OPEN_LISTS self.old token (value_of token text.now)) at result self.new }
     {
         match self.place {
             Place::Fixed(fixed) => self.fixed(fixed, token, text, at),
@@ -149,7 +150,7 @@ impl Reader {
         text: &[u8],
         at: usize,
     ) -> Result<(), P21Fault>
-        ensures { Steps (spec.step_first_param self.old token (value_of token text.now)) at result self.new }
+        ensures { Steps (spec.step_first_param MAX_OPEN_LISTS self.old token (value_of token text.now)) at result self.new }
     {
         match token {
             Token::RightParen => self.close(alloc, at),
@@ -158,7 +159,7 @@ impl Reader {
     }
 
     fn param(&mut self, alloc: Global, token: Token, text: &[u8], at: usize) -> Result<(), P21Fault>
-        ensures { Steps (spec.step_param self.old token (value_of token text.now)) at result self.new }
+        ensures { Steps (spec.step_param MAX_OPEN_LISTS self.old token (value_of token text.now)) at result self.new }
     {
         match token {
             Token::Keyword => {
@@ -185,7 +186,7 @@ impl Reader {
 
     /// Opens a list within the innermost one.
     fn open(&mut self, alloc: Global, opening: Opening, at: usize) -> Result<(), P21Fault>
-        ensures { Steps (spec.opens opening self.old) at result self.new }
+        ensures { Steps (spec.opens MAX_OPEN_LISTS opening self.old) at result self.new }
     {
         if self.outer.len() >= MAX_OPEN_LISTS - 1 {
             return Err(P21Fault::TooDeep(at));
@@ -197,7 +198,7 @@ impl Reader {
     }
 
     fn typed_list(&mut self, alloc: Global, token: Token, at: usize) -> Result<(), P21Fault>
-        ensures { Steps (spec.step_typed_list self.old token) at result self.new }
+        ensures { Steps (spec.step_typed_list MAX_OPEN_LISTS self.old token) at result self.new }
     {
         match token {
             Token::LeftParen => {

@@ -1,4 +1,4 @@
-use Rattle.sn_p21.proofs.FileKept.{one_file_from}
+use Rattle.sn_p21.proofs.FirstFaults.{one_file_from}
 use Rattle.sn_p21.proofs.WordsRead.{end_is_next}
 use Rattle.sn_p21.proofs.read.one_file.Goals as goal
 

@@ -1,14 +1,11 @@
-use Rattle.std.proofs.Common.{arith, refl}
-use Rattle.stepmill.proofs.RunningLemmas.{not_plain, not_built}
+use Rattle.std.proofs.Common.{arith}
+use Rattle.stepmill.proofs.SoundLemmas.{sound_part, refused_part_text}
 use Rattle.stepmill.proofs.part.judge.Goals as goal
 
-pub returns-in_default-clause-refused : goal.returns-in_default-clause-refused
-returns-in_default-clause-refused c = not_plain _ c.args.pitch (omega arith) c.in_default.ensures.only
+pub returns-in-Ok-clause-sound : goal.returns-in-Ok-clause-sound
+returns-in-Ok-clause-sound c =
+    sound_part c.args.bytes.now c.args.pitch c.in-Ok.file c.judge_file.result (omega arith) c.in-Ok.ensures.found c.judge_file.ensures.plain c.judge_file.ensures.built c.judge_file.ensures.seen
 
-pub returns-then-not-is_built-clause-refused : goal.returns-then-not-is_built-clause-refused
-returns-then-not-is_built-clause-refused c =
-    not_built _ c.args.pitch c.in-Some.part (omega arith) c.in-Some.ensures.only (λ built. let h = c.if-not-is_built.ensures.1 built in cc)
-
-pub returns-then-not-is_seen-clause-refused : goal.returns-then-not-is_seen-clause-refused
-returns-then-not-is_seen-clause-refused c =
-    (c.in-Some.part, omega arith, c.in-Some.ensures.found, c.if-not-is_built.ensures.0 refl, (λ seen. let h = c.if-not-is_seen.ensures.1 seen in cc))
+pub returns-in-Ok-clause-refused : goal.returns-in-Ok-clause-refused
+returns-in-Ok-clause-refused c =
+    refused_part_text c.args.bytes.now c.args.pitch c.in-Ok.file c.judge_file.result (omega arith) c.in-Ok.ensures.found c.judge_file.ensures.refused

@@ -62,5 +62,5 @@ returns-in-Ok-clause-completes g c = λ tells part pitch sound.
 pub returns-in-Err-clause-completes : goal.returns-in-Err-clause-completes
 returns-in-Err-clause-completes g c = λ tells part pitch sound.
     let state = g.F.Files.state in
-    let devices = sound_not_refused c.args.words.now (state c.args.files.now) (state c.prepare.new.files) part pitch c.in-Err.refusal tells sound c.in-Err.ensures.explains in
+    let devices = sound_not_refused c.sound_or_refused.ensures c.args.words.now (state c.args.files.now) (state c.prepare.new.files) part pitch c.in-Err.refusal tells sound c.in-Err.ensures.explains in
     elim c.refuse.ensures.either [ inl same ↦ inr (subst IsOfDevices (sym same) devices) | inr stopped ↦ inr (inr (inl stopped)) ]

@@ -1,0 +1,12 @@
+//! Laws of the definitions, for proofs above. The functions do nothing.
+
+ghost use Rattle.sn_p21.specs.PartText.{ReadsCanonical};
+
+use sn_lex::reads_written;
+
+/// The canonical text of a file is a part text of it, so reading what was written gives the file again.
+pub fn reads_canonical()
+    ensures { ReadsCanonical }
+{
+    reads_written();
+}

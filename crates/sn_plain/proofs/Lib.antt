@@ -1,0 +1,5 @@
+pub mod NumberTextLemmas
+pub mod OnePlainLemmas
+pub mod PieceLemmas
+pub mod PlainLemmas
+pub mod QuantityLemmas
