@@ -1,11 +1,14 @@
 pub mod CommandLemmas
 pub mod ReadingLemmas
 pub mod HoleLemmas
+pub mod HoleLawLemmas
+pub mod PlanLawLemmas
 pub mod ProgramLemmas
 pub mod HoleTextLemmas
 pub mod GridLemmas
 pub mod SeenLemmas
 pub mod RunningLemmas
+pub mod LawLemmas
 pub mod LineLemmas
 pub mod FormedLemmas
 pub mod RunLemmas

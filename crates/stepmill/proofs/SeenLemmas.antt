@@ -117,7 +117,7 @@ near_columns a b i k e f h = (omega (arith, ints), omega (arith, ints))
 columns_near : (a : ℤ) (i k : ℕ) → a ≡ pos i → k ≤ i + 2 → i ≤ k + 2 → unsigned_abs (pos k -ℤ a) ≤ 2
 columns_near a i k e below above = omega (arith, ints)
 
-only : (s t : Step) → Contains (s ∷ []) t → s ≡ t
+pub only : (s t : Step) → Contains (s ∷ []) t → s ≡ t
 only s t (zero, below, is) = is
 only s t (suc k, below, is) = absurd (omega arith)
 

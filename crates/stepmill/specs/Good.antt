@@ -48,7 +48,7 @@ pub record IsClear (job : Job) (before : List Act) (from to : Pt3) (tool : ℕ) 
 -- the cell is not as deep as the axial depth above where the tool cuts with its whole diameter, measured from the lower
 -- end of the way
 abbrev pub IsShallow : Step → Pt3 → Pt3 → Cell → Type 0
-IsShallow step from to c = (c.z <ℤ (from.z +ℤ pos step.body.e +ℤ pos step.axial)) ⊎ (c.z <ℤ (to.z +ℤ pos step.body.e +ℤ pos step.axial))
+IsShallow step from to c = (c.z <ℤ (from.z +ℤ pos step.body.e +ℤ pos step.axial)) × (c.z <ℤ (to.z +ℤ pos step.body.e +ℤ pos step.axial))
 
 -- the way at feed is the current step's, with its tool, feed and speed; what it touches of the material is allowed, and,
 -- unless it changes Z alone, no deeper than the step's axial depth

@@ -3,12 +3,15 @@ pub mod FaultText
 pub mod Good
 pub mod HoleText
 pub mod Job
+pub mod Laws
 pub mod Line
 pub mod Machine
+pub mod MachineLaws
 pub mod Material
 pub mod OneHole
 pub mod Outcome
 pub mod Plan
+pub mod PlanLaws
 pub mod Reading
 pub mod Region
 pub mod Seen

@@ -3,6 +3,7 @@
 
 mod command;
 mod grid;
+mod laws;
 mod part;
 mod program;
 mod reading;

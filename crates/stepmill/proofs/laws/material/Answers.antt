@@ -1,0 +1,11 @@
+use Rattle.stepmill.proofs.LawLemmas.{feed_cuts_above_its_point, only_feeds_cut, cut_stays_cut}
+use Rattle.stepmill.proofs.laws.material.Goals as goal
+
+pub returns-clause-above_the_point : goal.returns-clause-above_the_point
+returns-clause-above_the_point c = feed_cuts_above_its_point
+
+pub returns-clause-only_feeds : goal.returns-clause-only_feeds
+returns-clause-only_feeds c = only_feeds_cut
+
+pub returns-clause-stays_cut : goal.returns-clause-stays_cut
+returns-clause-stays_cut c = cut_stays_cut
