@@ -1,0 +1,12 @@
+pub mod FaultLemmas
+pub mod GivenForms
+pub mod GivenOne
+pub mod KindLemmas
+pub mod MeasureLemmas
+pub mod OneShowingLemmas
+pub mod ParamLemmas
+pub mod ReadLemmas
+pub mod RefusalLemmas
+pub mod RowNames
+pub mod RowsLeft
+pub mod RowsRise

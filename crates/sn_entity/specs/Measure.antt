@@ -1,0 +1,63 @@
+-- The numbers of parameters: their units and limits (this project's own). As in ISO 14649, lengths are written in
+-- millimetres, feeds in metres per second and speeds in revolutions per second.
+use Rattle.std.specs.Prelude.{◌≡◌, ℕ, ◌*◌, ◌/◌, ◌≤◌, ℤ, pos, neg_ℤ, ◌≤ℤ◌, unsigned_abs, Bool, true, false, cond, List}
+use Rattle.sn_geom.specs.Decimal.{Decimal, IsNumber, ScalesTo}
+use Rattle.sn_geom.specs.declared.limits.TheConstants.{PER_MM, REACH}
+
+-- how a number is taken: times a factor, rounded, its sign dropped or not, from the least to the greatest value
+pub record Measure : Type 0 where
+  pub factor : ℕ
+  pub signed : Bool
+  pub least : ℤ
+  pub greatest : ℤ
+
+abbrev pub measure : ℕ → ℤ → ℤ → Measure
+measure factor least greatest = record { factor = factor; signed = true; least = least; greatest = greatest }
+
+-- a micrometre in units of length
+abbrev pub micrometre : ℕ
+micrometre = PER_MM / 1000
+
+abbrev pub length_from : ℤ → Measure
+length_from least = measure PER_MM least (pos REACH)
+
+abbrev pub coordinate : Measure
+coordinate = length_from (neg_ℤ (pos REACH))
+
+abbrev pub diameter : Measure
+diameter = measure PER_MM (pos (10 * micrometre)) (pos (200000 * micrometre))
+
+abbrev pub edge_radius : Measure
+edge_radius = measure PER_MM (pos 0) (pos (100000 * micrometre))
+
+abbrev pub feed : Measure
+feed = measure 60000 (pos 1) (pos 100000)
+
+abbrev pub speed : Measure
+speed = record { factor = 60; signed = false; least = pos 1; greatest = pos 100000 }
+
+abbrev pub thousandths : Measure
+thousandths = measure 1000 (neg_ℤ (pos 2000000000)) (pos 2000000000)
+
+abbrev pub ratio : Measure
+ratio = measure 1000 (neg_ℤ (pos 2000000)) (pos 2000000)
+
+-- what is small enough to be read exactly
+pub record IsSmall (m : Measure) : Type 0 where
+  pub factor : m.factor ≤ 60000
+  pub least : unsigned_abs m.least ≤ 2000000000
+  pub greatest : unsigned_abs m.greatest ≤ 2000000000
+
+-- within the limits
+pub record IsWithin (m : Measure) (z : ℤ) : Type 0 where
+  pub low : m.least ≤ℤ z
+  pub high : z ≤ℤ m.greatest
+
+-- the number of this text has the value z
+pub record Measures (m : Measure) (text : List ℕ) (z : ℤ) : Type 0 where
+  pub decimal : Decimal
+  pub rounded : ℤ
+  pub number : IsNumber text decimal
+  pub scales : ScalesTo decimal m.factor rounded
+  pub value : z ≡ cond m.signed rounded (pos (unsigned_abs rounded))
+  pub within : IsWithin m z

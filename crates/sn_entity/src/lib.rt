@@ -1,0 +1,24 @@
+//! The table of the entities that a part program may use (after ISO 14649-10 and ISO 14649-11, in this project's own
+//! profile), and what an instance shows by it.
+#![tactic(auto)]
+
+mod fault;
+mod keywords;
+mod laws;
+mod measure;
+mod param;
+mod reads;
+mod refusal;
+mod row;
+mod shown;
+mod table;
+#[cfg(test)]
+mod tests;
+mod value;
+
+pub use fault::EntFault;
+pub use laws::one_row;
+pub use row::{Group, Kind, Read, Row, RowId};
+pub use shown::{fields, one_showing, row_of};
+pub use table::{Reads, reads_of};
+pub use value::{Bytes, Fields, Refs, Value, Values};

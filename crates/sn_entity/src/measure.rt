@@ -1,0 +1,176 @@
+//! The numbers of parameters, by their units and limits.
+ghost use Rattle.std.specs.Prelude.{◌≡◌, ◌≤◌, ◌↔◌, ℤ, pos, IsTrue, IfOk, IfErr, OnOk, unsigned_abs, cond};
+ghost use Rattle.sn_geom.specs.Decimal.{Decimal, IsNumber, IsNumberText};
+ghost use Rattle.sn_entity.specs.Measure.{IsSmall, IsWithin, Measures, measure, length_from, coordinate, diameter, edge_radius, feed, speed, thousandths, ratio};
+ghost use Rattle.sn_entity.specs.Refusal.{IsRefused};
+
+use crate::refusal::Refusal;
+use sn_geom::{Dec, DecFault, PER_MM, REACH, read_dec};
+use std::marker::Model;
+
+/// The size up to which a rounded number is read. Each limit of a number is at most that.
+const WIDEST: u32 = 2_000_000_000;
+
+/// Units of length in a micrometre.
+const MICROMETRE: i32 = PER_MM as i32 / 1_000;
+
+/// How a number is taken: times a factor, rounded, its sign kept or not, from the least to the greatest value.
+#[derive(Drop)]
+pub struct Measure {
+    factor: u32,
+    signed: bool,
+    least: i32,
+    greatest: i32,
+}
+
+impl Model for Measure {
+    ghost use Rattle.sn_entity.specs.Measure.{Measure};
+
+    ghost Value = { Measure };
+
+    ghost view = { λ m. record { factor = m.factor; signed = m.signed; least = m.least; greatest = m.greatest } };
+}
+
+impl Measure {
+    /// The value that a rounded number gives.
+    fn value_of(&self, rounded: i32) -> i32
+        requires { unsigned_abs rounded ≤ WIDEST }
+        ensures { result ≡ cond self.now.signed rounded (pos (unsigned_abs rounded)) }
+    {
+        if self.signed { rounded } else { rounded.abs() }
+    }
+
+    /// Whether a value is within the limits.
+    fn is_within(&self, value: i32) -> bool
+        ensures { IsTrue result ↔ IsWithin self.now value }
+    {
+        self.least <= value && value <= self.greatest
+    }
+
+    /// The value of a number's text.
+    pub fn read(&self, text: &[u8]) -> Result<i32, Refusal>
+        requires { IsSmall self.now }
+        ensures found { IfOk result (Measures self.now text.now) }
+        ensures refused { IfErr result (λ why. IsRefused why (IsNumberText text.now) (Measures self.now text.now)) }
+    {
+        let decimal = decimal_of(text)?;
+        let Ok(rounded) = decimal.scaled(self.factor, WIDEST) else {
+            return Err(Refusal::Range);
+        };
+        let value = self.value_of(rounded);
+        if self.is_within(value) {
+            Ok(value)
+        } else {
+            Err(Refusal::Range)
+        }
+    }
+}
+
+/// The number of a text.
+fn decimal_of(text: &[u8]) -> Result<Dec, Refusal>
+    ensures found { IfOk result (IsNumber text.now) }
+    ensures every { (d : Decimal) → IsNumber text.now d → result ≡ Ok d }
+    ensures refused { IfErr result (λ why. IsRefused why (IsNumberText text.now) (IsNumber text.now)) }
+{
+    match read_dec(text) {
+        Ok(decimal) => Ok(decimal),
+        Err(DecFault::NotNumber) => Err(Refusal::Kind),
+        Err(DecFault::OutOfRange) => Err(Refusal::Range),
+    }
+}
+
+/// Whether a text is a number's text.
+pub fn is_number_text(text: &[u8]) -> bool
+    ensures { IsTrue result ↔ IsNumberText text.now }
+{
+    match read_dec(text) {
+        Ok(_) => true,
+        Err(DecFault::OutOfRange) => true,
+        Err(DecFault::NotNumber) => false,
+    }
+}
+
+/// That a number's text writes 0, exactly.
+pub fn read_zero(text: &[u8]) -> Result<(), Refusal>
+    ensures found { OnOk result ((d : Decimal) × IsNumber text.now d × (d.digits ≡ 0)) }
+    ensures refused { IfErr result (λ why. IsRefused why (IsNumberText text.now) (λ d. IsNumber text.now d × (d.digits ≡ 0))) }
+{
+    let decimal = decimal_of(text)?;
+    if decimal.digits == 0 {
+        Ok(())
+    } else {
+        Err(Refusal::Range)
+    }
+}
+
+fn signed_measure(factor: u32, least: i32, greatest: i32) -> Measure
+    ensures { result ≡ measure factor least greatest }
+{
+    Measure {
+        factor,
+        signed: true,
+        least,
+        greatest,
+    }
+}
+
+/// A length from this one on, in units of length.
+pub fn length_from(least: i32) -> Measure
+    ensures { result ≡ length_from least }
+{
+    signed_measure(PER_MM, least, REACH as i32)
+}
+
+/// A coordinate, in units of length.
+pub fn coordinate() -> Measure
+    ensures { result ≡ coordinate }
+{
+    length_from(-(REACH as i32))
+}
+
+/// The diameter of a tool, in units of length.
+pub fn diameter() -> Measure
+    ensures { result ≡ diameter }
+{
+    signed_measure(PER_MM, 10 * MICROMETRE, 200_000 * MICROMETRE)
+}
+
+/// The edge radius of a tool, in units of length.
+pub fn edge_radius() -> Measure
+    ensures { result ≡ edge_radius }
+{
+    signed_measure(PER_MM, 0, 100_000 * MICROMETRE)
+}
+
+/// A feed in mm/min, of one in m/s.
+pub fn feed() -> Measure
+    ensures { result ≡ feed }
+{
+    signed_measure(60_000, 1, 100_000)
+}
+
+/// The speed of a spindle in rev/min, of one in rev/s with or without a sign.
+pub fn speed() -> Measure
+    ensures { result ≡ speed }
+{
+    Measure {
+        factor: 60,
+        signed: false,
+        least: 1,
+        greatest: 100_000,
+    }
+}
+
+/// A number, in thousandths.
+pub fn thousandths() -> Measure
+    ensures { result ≡ thousandths }
+{
+    signed_measure(1_000, -2_000_000_000, 2_000_000_000)
+}
+
+/// A ratio of a direction, in thousandths.
+pub fn ratio() -> Measure
+    ensures { result ≡ ratio }
+{
+    signed_measure(1_000, -2_000_000, 2_000_000)
+}

@@ -1,0 +1,257 @@
+//! Each row of the table once, and the faults of parameters.
+
+use crate::{EntFault, Fields, Value, fields, row_of};
+use sn_p21::{Instance, read_file};
+use std::alloc::{AllocError, Global};
+use std::process::Abort;
+use std::test::Fail;
+
+/// The keywords, and a letter for each parameter up to the last one that is read: r a reference, l a list of them, n a
+/// number, p a point, v a direction, t a string, z nothing, 0 nothing or zero, b anything; a capital one may be left out, and
+/// a point is not read.
+const ROWS: [(&str, &str); 58] = [
+    ("PROJECT", ".rl"),
+    ("WORKPLAN", ".l.R"),
+    ("IF_STATEMENT", ".rrR"),
+    ("NON_SEQUENTIAL", ".l"),
+    ("MACHINING_WORKINGSTEP", ".rrr"),
+    ("SETUP", "..Rl"),
+    ("WORKPIECE_SETUP", "rr"),
+    ("WORKPIECE", "...R.b"),
+    ("BLOCK", ".rnnn"),
+    ("PLANAR_FACE", "...rrrrzl"),
+    ("CLOSED_POCKET", "...rrl0rRRr"),
+    ("SLOT", "...rrrrl"),
+    ("ROUND_HOLE", "...rrrzr"),
+    ("BOSS", "...rrr0"),
+    ("PLANE_ROUGH_MILLING", ".....rr.....NN"),
+    ("PLANE_FINISH_MILLING", ".....rr.....NN"),
+    ("BOTTOM_AND_SIDE_ROUGH_MILLING", ".....rr.....NNNN"),
+    ("BOTTOM_AND_SIDE_FINISH_MILLING", ".....rr.....NNNN"),
+    ("DRILLING", ".....rr"),
+    ("CUTTING_TOOL", ".r.N"),
+    ("MILLING_CUTTING_TOOL", ".r.N"),
+    ("ENDMILL", "r"),
+    ("TWIST_DRILL", "r"),
+    ("MILLING_TOOL_DIMENSION", "n...N"),
+    ("MILLING_TECHNOLOGY", "n..n"),
+    ("AXIS2_PLACEMENT_3D", ".rRR"),
+    ("CARTESIAN_POINT", ".p"),
+    ("DIRECTION", ".v"),
+    ("PLANE", ".r"),
+    ("ELEMENTARY_SURFACE", ".r"),
+    ("TOLERANCED_LENGTH_MEASURE", "n"),
+    ("NUMERIC_PARAMETER", ".n"),
+    ("LINEAR_PATH", "zrr"),
+    ("GENERAL_PATH", "zr"),
+    ("POLYLINE", ".l"),
+    ("LINEAR_PROFILE", "zr"),
+    ("SQUARE_U_PROFILE", "zr.0.0"),
+    ("GENERAL_CLOSED_PROFILE", "Rr"),
+    ("RECTANGULAR_CLOSED_PROFILE", "Rrr"),
+    ("CIRCULAR_CLOSED_PROFILE", "Rr"),
+    ("RADIUSED_SLOT_END_TYPE", ""),
+    ("THROUGH_BOTTOM_CONDITION", ""),
+    ("FLAT_HOLE_BOTTOM", ""),
+    ("CONICAL_HOLE_BOTTOM", ""),
+    ("PLANAR_POCKET_BOTTOM_CONDITION", ""),
+    ("THROUGH_POCKET_BOTTOM_CONDITION", ""),
+    ("AND_EXPRESSION", "l"),
+    ("OR_EXPRESSION", "l"),
+    ("XOR_EXPRESSION", "rr"),
+    ("NOT_EXPRESSION", "r"),
+    ("COMPARISON_EQUAL", "rr"),
+    ("COMPARISON_NOT_EQUAL", "rr"),
+    ("COMPARISON_LESS", "rr"),
+    ("COMPARISON_LESS_EQUAL", "rr"),
+    ("COMPARISON_GREATER", "rr"),
+    ("COMPARISON_GREATER_EQUAL", "rr"),
+    ("NC_VARIABLE", "tN"),
+    ("NC_CONSTANT", ".n"),
+];
+
+/// A parameter that the letter stands for.
+fn good(letter: u8) -> &'static str {
+    match letter {
+        b'r' | b'R' | b'b' => "T(#7)",
+        b'l' => "(#7,T(#8))",
+        b'n' | b'N' => "T(1.)",
+        b'p' => "(1.,T(2.))",
+        b'v' => "(0.,0.,1.)",
+        b't' => "'t'",
+        b'z' => "$",
+        b'0' => "-0.",
+        _ => ".U.",
+    }
+}
+
+/// A parameter of a form that the letter does not stand for.
+fn bad(letter: u8) -> &'static str {
+    match letter {
+        b'l' => "#7",
+        b'p' => "(1.)",
+        b'v' => "(0.,1.)",
+        b'z' => "1.",
+        b'0' => "'0'",
+        b'R' | b'N' => "T($)",
+        _ => "$",
+    }
+}
+
+/// An instance of a row, where the parameter at one place is a bad one.
+fn instance(
+    alloc: Global,
+    keyword: &str,
+    letters: &[u8],
+    bad_at: u32,
+) -> Result<String, AllocError> {
+    let mut text = format!(in alloc; "#5={keyword}(")?;
+    let mut place = 0u32;
+    for letter in letters {
+        if place > 0 {
+            text.push(',')?;
+        }
+        place = place.wrapping_add(1);
+        text.push_str(if place == bad_at {
+            bad(*letter)
+        } else {
+            good(*letter)
+        })?;
+    }
+    text.push_str(");")?;
+    Ok(text)
+}
+
+/// What an instance shows, where the table has its row.
+fn known(alloc: Global, instance: &Instance) -> Option<Result<Fields, EntFault>> {
+    let [entity] = instance.parts.as_slice() else {
+        return None;
+    };
+    row_of(entity.keyword.as_slice())?;
+    Some(fields(alloc, instance))
+}
+
+/// What the instance of this text shows.
+fn shown(alloc: Global, text: &str) -> Result<Result<Fields, EntFault>, Fail> {
+    let text = format!(in alloc;
+        "ISO-10303-21;HEADER;FILE_DESCRIPTION();FILE_NAME();FILE_SCHEMA();ENDSEC;DATA;{text}ENDSEC;END-ISO-10303-21;"
+    )?;
+    let Ok(file) = read_file(alloc, text.as_bytes()) else {
+        return Err(Fail::from("not read"));
+    };
+    let instance = file.instances.at(0).ok_or("no instance")?;
+    let Some(found) = known(alloc, instance) else {
+        return Err(Fail::from("no row"));
+    };
+    Ok(found)
+}
+
+/// Reads a row with a bad parameter at each place that is read, and with one parameter less than it wants.
+fn check_faults(rt: &impl Abort, alloc: Global, keyword: &str, letters: &[u8]) -> Result<(), Fail> {
+    let mut place = 0u32;
+    for letter in letters {
+        place = place.wrapping_add(1);
+        if *letter != b'.' && *letter != b'b' {
+            let text = instance(alloc, keyword, letters, place)?;
+            assert_eq!(rt;
+                shown(alloc, &text)?.err(),
+                Some(EntFault::KindAt(5, place)),
+                "{text}"
+            );
+        }
+    }
+    if let Some((_, front)) = letters.split_last() {
+        let text = instance(alloc, keyword, front, place)?;
+        assert_eq!(rt;
+            shown(alloc, &text)?.err(),
+            Some(EntFault::Count(5, place, place.wrapping_sub(1))),
+            "{text}"
+        );
+    }
+    Ok(())
+}
+
+#[test]
+fn reads_each_row(rt: HostRuntime) -> Result<(), Fail> {
+    for (keyword, letters) in ROWS {
+        let letters = letters.as_bytes();
+        let text = instance(rt.alloc(), keyword, letters, 0)?;
+        let Ok(found) = shown(rt.alloc(), &text)? else {
+            return Err(Fail::from("a fault"));
+        };
+        let reads = letters.iter().filter(|letter| **letter != b'.').count();
+        assert_eq!(rt; found.values.len(), reads, "{text}");
+        check_faults(&rt, rt.alloc(), keyword, letters)?;
+    }
+    assert!(rt; row_of(b"PLANES").is_none());
+    Ok(())
+}
+
+/// Instances and their faults.
+const FAULTS: [(&str, EntFault); 18] = [
+    ("NC_CONSTANT('');", EntFault::Count(5, 2, 1)),
+    (
+        "CARTESIAN_POINT('',(1.,2.,2000.001));",
+        EntFault::Range(5, 2),
+    ),
+    (
+        "CARTESIAN_POINT('',(1.,'',2000.001));",
+        EntFault::KindAt(5, 2),
+    ),
+    ("CARTESIAN_POINT('',T((1.,2.)));", EntFault::KindAt(5, 2)),
+    ("DIRECTION('',(1.,0.));", EntFault::KindAt(5, 2)),
+    ("DIRECTION('',(1.,0.,-2000.001));", EntFault::Range(5, 2)),
+    ("NC_CONSTANT('',T(T(1.)));", EntFault::KindAt(5, 2)),
+    ("NC_CONSTANT('',2000000.001);", EntFault::Range(5, 2)),
+    ("NC_CONSTANT('',0.E100);", EntFault::Range(5, 2)),
+    ("BLOCK('',#1,0.,'',1.);", EntFault::Range(5, 3)),
+    ("BLOCK('',$,0.,'',1.);", EntFault::KindAt(5, 2)),
+    (
+        "MILLING_TOOL_DIMENSION(0.009,$,$,$,100.001);",
+        EntFault::Range(5, 1),
+    ),
+    (
+        "MILLING_TOOL_DIMENSION(200.,$,$,$,100.001);",
+        EntFault::Range(5, 5),
+    ),
+    ("MILLING_TECHNOLOGY(0.,$,$,1.);", EntFault::Range(5, 1)),
+    ("MILLING_TECHNOLOGY(1.,$,$,-1667.);", EntFault::Range(5, 4)),
+    ("TOLERANCED_LENGTH_MEASURE(-1.);", EntFault::Range(5, 1)),
+    ("BOSS('',$,$,#1,#2,#3,0.00001);", EntFault::Range(5, 7)),
+    ("POLYLINE('',(#1,T(T(#2))));", EntFault::KindAt(5, 2)),
+];
+
+#[test]
+fn tells_the_fault_of_a_parameter(rt: HostRuntime) -> Result<(), Fail> {
+    for (text, fault) in FAULTS {
+        let text = format!(in rt.alloc(); "#5={text}")?;
+        assert_eq!(rt; shown(rt.alloc(), &text)?.err(), Some(fault), "{text}");
+    }
+    Ok(())
+}
+
+#[test]
+fn gives_the_values_of_parameters(rt: HostRuntime) -> Result<(), Fail> {
+    let Ok(technology) = shown(rt.alloc(), "#5=MILLING_TECHNOLOGY(0.005,.TCP.,$,-12.);")? else {
+        return Err(Fail::from("no technology"));
+    };
+    let [Value::Num(feed), Value::Num(speed)] = technology.values.as_slice() else {
+        return Err(Fail::from("no feed and speed"));
+    };
+    assert_eq!(rt; (*feed, *speed), (300, 720));
+    let Ok(point) = shown(rt.alloc(), "#5=CARTESIAN_POINT('',(LENGTH(-0.0005),2.));")? else {
+        return Err(Fail::from("no point"));
+    };
+    let [Value::Triple(x, y, z)] = point.values.as_slice() else {
+        return Err(Fail::from("no coordinates"));
+    };
+    assert_eq!(rt; (*x, *y, *z), (-1, 2_000, 0));
+    let Ok(line) = shown(rt.alloc(), "#5=POLYLINE('',(#1,#2,#3,#4,#5,#6,#7,#8,#9));")? else {
+        return Err(Fail::from("no line"));
+    };
+    let [Value::Many(refs)] = line.values.as_slice() else {
+        return Err(Fail::from("no points"));
+    };
+    assert_eq!(rt; refs.as_slice(), [1, 2, 3, 4, 5, 6, 7, 8, 9].as_slice());
+    Ok(())
+}
