@@ -1,0 +1,12 @@
+pub mod Chains
+pub mod EndLemmas
+pub mod FaultLemmas
+pub mod FinishLemmas
+pub mod InstanceLemmas
+pub mod MarkLemmas
+pub mod MergeLemmas
+pub mod ModelLemmas
+pub mod Paths
+pub mod RankLemmas
+pub mod ReachLemmas
+pub mod WalkLemmas

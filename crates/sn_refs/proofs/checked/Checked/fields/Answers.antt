@@ -1,0 +1,15 @@
+use Rattle.std.proofs.Common.{◌≡◌, Some, ap, subst, sym}
+use Rattle.std.proofs.Math.Logic.{∥∥₁_elim}
+use Rattle.sn_entity.specs.declared.value.Fields.{Fields}
+use Rattle.sn_model.specs.declared.model.Entry.TheVariants.{Typed}
+use Rattle.sn_model.specs.ModelContent.{ModelContent, entry_of}
+use Rattle.sn_refs.specs.Reference.{IsReached, fields_from}
+use Rattle.sn_refs.proofs.checked.Checked.fields.Goals as goal
+
+pub unreachable-requires : goal.unreachable-requires
+unreachable-requires c =
+    ∥∥₁_elim c.self.invariant.sound (λ x y. absurd x)
+    (λ s. let reached : IsReached c.self.inside.model c.args.n = subst (λ (m : ModelContent). IsReached m c.args.n) (sym c.self.view_is) c.requires in
+    let typed : (f : Fields) × (entry_of c.args.n c.self.inside.model ≡ Some (Typed f)) = s.shown c.args.n reached in
+    let given : fields_from (entry_of c.args.n c.self.inside.model) ≡ Some typed.0 = ap fields_from typed.1 in
+    cc (c.in-None.ensures))

@@ -1,0 +1,151 @@
+//! The verdicts on small parts.
+
+use crate::{Checked, check};
+use sn_model::build;
+use sn_p21::read_file;
+use std::alloc::Global;
+use std::test::Fail;
+
+/// The instances of a part with one hole, without its security plane and the dimension of its tool.
+const ONE_HOLE: &str =
+    "#1=PROJECT('one',#2,(#3),$,$,$);#2=WORKPLAN('main',(#4),$,#5,$);#3=WORKPIECE('block',$,$,$,$,#6,());#4=MACHINING_WORKINGSTEP('hole',#7,#8,#9,$);#5=SETUP('setup',$,#7,(#10));#6=BLOCK('raw',#11,20.,20.,10.);#8=ROUND_HOLE('hole',#3,(#9),#13,#14,#15,$,#16);#9=DRILLING($,$,'plunge',$,$,#17,#18,$,$,$,$,$,$,$);#10=WORKPIECE_SETUP(#3,#11,$,$,());#11=AXIS2_PLACEMENT_3D('origin',#19,$,$);#12=AXIS2_PLACEMENT_3D('security',#20,$,$);#13=AXIS2_PLACEMENT_3D('hole',#21,$,$);#14=PLANE('depth',#22);#15=TOLERANCED_LENGTH_MEASURE(8.,$);#16=FLAT_HOLE_BOTTOM();#17=CUTTING_TOOL('mill 8',#23,(),80.,$,$);#18=MILLING_TECHNOLOGY(0.005,.TCP.,$,-12.,$,.F.,.F.,.F.,$);#19=CARTESIAN_POINT('',(0.,0.,0.));#20=CARTESIAN_POINT('',(0.,0.,20.));#21=CARTESIAN_POINT('',(10.,10.,10.));#22=AXIS2_PLACEMENT_3D('depth',#24,$,$);#23=ENDMILL(#25,4,.RIGHT.,.F.,$,$);#24=CARTESIAN_POINT('',(0.,0.,-6.));";
+
+/// What `check` answers of the model of these instances: the text of its fault.
+fn verdict(alloc: Global, instances: &str) -> Result<Result<Checked, String>, Fail> {
+    let text = format!(in alloc;
+        "ISO-10303-21;HEADER;FILE_DESCRIPTION((''),'1');FILE_NAME();FILE_SCHEMA(());ENDSEC;DATA;{instances}ENDSEC;END-ISO-10303-21;"
+    )?;
+    let Ok(file) = read_file(alloc, text.as_bytes()) else {
+        return Err(Fail::from("not read"));
+    };
+    let Ok(model) = build(alloc, &file) else {
+        return Err(Fail::from("no model"));
+    };
+    match check(alloc, model) {
+        Ok(checked) => Ok(Ok(checked)),
+        Err(fault) => Ok(Err(format!(in alloc; "{fault}")?)),
+    }
+}
+
+#[test]
+fn parts_are_refused_by_their_first_fault(rt: HostRuntime) -> Result<(), Fail> {
+    let rows = [
+        (
+            "#1=PROJECT('',#2,());#2=WORKPLAN('',());",
+            "an instance does not show its row",
+        ),
+        (
+            "#1=PROJECT('',#2,());",
+            "instance 1 has parameter 2 that names nothing",
+        ),
+        // The first bad element of a list decides.
+        (
+            "#1=PROJECT('',#2,());#2=WORKPLAN('',(#3,#4,#1),$,$);#3=WORKPLAN('',(),$,$);",
+            "instance 2 has parameter 2 that names nothing",
+        ),
+        (
+            "#1=PROJECT('',#2,());#2=WORKPLAN('',(#3,#1,#4),$,$);#3=WORKPLAN('',(),$,$);",
+            "instance 2 has parameter 2 that names instance 1 of a wrong kind",
+        ),
+        (
+            "#1=PROJECT('',#2,());#2=WORKPLAN('',(#6),$,$);#6=OWN();",
+            "instance 2 has parameter 2 that names instance 6 of a wrong kind",
+        ),
+        // The least number decides, whatever the order of the instances and the way to them.
+        (
+            "#9=PROJECT('',#5,(#3));#5=WORKPLAN('',(#7),$,$);#3=WORKPIECE('',$,$,#8,$,$);",
+            "instance 3 has parameter 4 that names nothing",
+        ),
+        (
+            "#9=PROJECT('',#5,(#3));#5=WORKPLAN('',());#3=WORKPIECE('',$,$,#8,$,$);",
+            "instance 3 has parameter 4 that names nothing",
+        ),
+        // A block is followed where anything may stand.
+        (
+            "#1=PROJECT('',#2,(#3));#2=WORKPLAN('',(),$,$);#3=WORKPIECE('',$,$,$,$,#4);#4=BLOCK('',#5,1.,1.,1.);",
+            "instance 4 has parameter 2 that names nothing",
+        ),
+        // Cycles: the least number on one, which the way there need not pass first.
+        (
+            "#1=PROJECT('',#2,());#2=WORKPLAN('',(#2),$,$);",
+            "instance 2 leads back to itself",
+        ),
+        (
+            "#1=PROJECT('',#2,());#2=WORKPLAN('',(#7),$,$);#7=WORKPLAN('',(#5),$,$);#5=WORKPLAN('',(#7),$,$);",
+            "instance 5 leads back to itself",
+        ),
+        (
+            "#1=PROJECT('',#2,());#2=WORKPLAN('',(#4,#8),$,$);#4=WORKPLAN('',(#8),$,$);#8=WORKPLAN('',(#6,#8),$,$);#6=WORKPLAN('',(#9),$,$);#9=WORKPLAN('',(#6),$,$);",
+            "instance 6 leads back to itself",
+        ),
+        (
+            "#1=PROJECT('',#9,());#9=WORKPLAN('',(#8,#3),$,$);#8=WORKPLAN('',(#9),$,$);#3=WORKPLAN('',(),$,$);",
+            "instance 8 leads back to itself",
+        ),
+        // Any other fault goes before a cycle.
+        (
+            "#1=PROJECT('',#2,());#2=WORKPLAN('',(#2,#3),$,$);#3=WORKPLAN('',(#4),$,$);",
+            "instance 3 has parameter 2 that names nothing",
+        ),
+    ];
+    for (instances, fault) in rows {
+        match verdict(rt.alloc(), instances)? {
+            Ok(_) => return Err(Fail::from("a sound model")),
+            Err(told) => assert_eq!(rt; told.as_str(), fault),
+        }
+    }
+    Ok(())
+}
+
+#[test]
+fn sound_parts_are_checked(rt: HostRuntime) -> Result<(), Fail> {
+    let rows = [
+        "#1=PROJECT('',#2,());#2=WORKPLAN('',(),$,$);",
+        // What the project does not lead to may have any fault.
+        "#1=PROJECT('',#2,());#2=WORKPLAN('',(),$,$);#3=WORKPLAN('',(#3,#9),$,$);#4=WORKPLAN();",
+        // Two ways lead to one instance.
+        "#1=PROJECT('',#2,());#2=WORKPLAN('',(#3,#4,#3),$,$);#3=WORKPLAN('',(#4),$,$);#4=WORKPLAN('',(),$,$);",
+        // Where anything may stand what is no block is not followed.
+        "#1=PROJECT('',#2,(#3));#2=WORKPLAN('',(),$,$);#3=WORKPIECE('',$,$,$,$,#1);",
+        "#1=PROJECT('',#2,(#3));#2=WORKPLAN('',(),$,$);#3=WORKPIECE('',$,$,$,$,#9);",
+    ];
+    for instances in rows {
+        assert!(rt; verdict(rt.alloc(), instances)?.is_ok());
+    }
+    Ok(())
+}
+
+#[test]
+fn part_with_one_hole(rt: HostRuntime) -> Result<(), Fail> {
+    let rows = [
+        (
+            "#7=PLANE('security',#12);",
+            "",
+            Some("instance 23 has parameter 1 that names nothing"),
+        ),
+        (
+            "#7=PLANE('security',#19);",
+            "#25=MILLING_TOOL_DIMENSION(8.,$,$,20.,0.,$,$);",
+            Some("instance 7 has parameter 2 that names instance 19 of a wrong kind"),
+        ),
+        (
+            "#7=PLANE('security',#12);",
+            "#25=MILLING_TOOL_DIMENSION(8.,$,$,20.,0.,$,$);",
+            None,
+        ),
+    ];
+    for (plane, dimension, fault) in rows {
+        let instances = format!(in rt.alloc(); "{ONE_HOLE}{plane}{dimension}")?;
+        match verdict(rt.alloc(), instances.as_str())? {
+            Ok(checked) => {
+                assert_eq!(rt; fault, None);
+                assert_eq!(rt; checked.project(), 1);
+                assert!(rt; checked.names_block(6));
+                assert!(rt; !checked.names_block(7));
+                assert!(rt; !checked.names_block(26));
+            }
+            Err(told) => assert_eq!(rt; Some(told.as_str()), fault),
+        }
+    }
+    Ok(())
+}
