@@ -1,6 +1,12 @@
+pub mod AxisLengths
 pub mod DigitValues
 pub mod Discs
-pub mod ExchangeNumbers
+pub mod LineCounts
+pub mod LineMarks
+pub mod LineNumbers
+pub mod LineReadings
+pub mod MachineFaults
+pub mod MachineRuns
 pub mod Nearness
 pub mod NumberLimits
 pub mod NumberText

@@ -1,7 +1,17 @@
+pub mod AxisWords
+pub mod Block
+pub mod BlockRule
 pub mod Decimal
 pub mod Length
+pub mod LineTable
+pub mod LineText
+pub mod LineTextLaws
+pub mod Machine
+pub mod MachineExamples
+pub mod MachineLaws
 pub mod NumberPieces
 pub mod Offset
 pub mod Rounding
 pub mod Sweep
 pub mod SweepLaws
+pub mod Tip

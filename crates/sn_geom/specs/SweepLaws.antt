@@ -1,5 +1,5 @@
 -- Laws of discs, nearness, touching and cutting (this project's own).
-use Rattle.std.specs.Prelude.{◌↔◌, ℕ, ◌*◌, ◌<◌, ◌≤◌, ℤ, ◌-ℤ◌, ◌≤ℤ◌, unsigned_abs}
+use Rattle.std.specs.Prelude.{◌≡◌, ◌↔◌, ℕ, ◌*◌, ◌<◌, ◌≤◌, ℤ, ◌-ℤ◌, ◌≤ℤ◌, unsigned_abs}
 use Rattle.std.specs.Int.{int_min}
 use Rattle.sn_geom.specs.declared.units.Pt.{Pt}
 use Rattle.sn_geom.specs.declared.units.Pt3.{Pt3}
@@ -11,6 +11,10 @@ DiscByRows =
     (d w : ℕ) (p q : Pt) →
     let dy = unsigned_abs (q.y -ℤ p.y) in
     (IsHalfWidth d dy w → (Disc d p q ↔ (unsigned_abs (q.x -ℤ p.x) ≤ w))) × (d < 2 * dy → ¬ Disc d p q)
+
+-- a point is in each disc about it, and a disc of no diameter is its point alone
+abbrev pub DiscHasItsCentre : Type 0
+DiscHasItsCentre = (d : ℕ) (p q : Pt) → Disc d p p × (Disc 0 p q → q ≡ p)
 
 -- what is near a segment of no length is in the disc about its place
 abbrev pub NearOnePlace : Type 0

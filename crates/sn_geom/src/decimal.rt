@@ -1,7 +1,7 @@
 //! Numbers as text, and their exact values.
 ghost use Rattle.std.specs.Prelude.{◌≡◌, ℕ, ◌*◌, ◌^◌, ◌≤◌, ◌<◌, ◌↔◌, ℤ, pos, ◌-ℤ◌, length, SomeIff, MatchOption, IfSome, IfOk, IfErr, unsigned_abs};
 ghost use Rattle.std.specs.Str.Parse.{AllDigits, digits_value, digits_value_after};
-ghost use Rattle.sn_geom.specs.Decimal.{Decimal, HasDecSize, IsNumber, IsNumberText, IsPastLimits, ScalesTo, HasOneNumber, HasOneReading, ScalesToOne, AreNumbers, with_sign};
+ghost use Rattle.sn_geom.specs.Decimal.{Decimal, HasDecSize, IsNumber, IsNumberText, IsPastLimits, ScalesTo, HasOneNumber, HasOneReading, ScalesToOne, with_sign};
 ghost use Rattle.sn_geom.specs.NumberPieces.{number_of};
 ghost use Rattle.sn_geom.specs.Rounding.{RoundsTo, RoundsToOne};
 
@@ -218,11 +218,6 @@ pub fn one_reading()
 pub fn one_rounding()
     ensures fraction { RoundsToOne }
     ensures product { ScalesToOne }
-{}
-
-/// The integers and the reals of ISO 10303-21 are numbers' texts.
-pub fn exchange_numbers()
-    ensures { AreNumbers }
 {}
 
 #[cfg(test)]

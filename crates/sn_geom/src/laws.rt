@@ -1,9 +1,12 @@
 //! Laws of the definitions that the swept tests meet. Each function's contract states laws, and the function does nothing.
-ghost use Rattle.sn_geom.specs.SweepLaws.{DiscByRows, NearOnePlace, NearEitherWay, NearOfLonger, NearOfLarger, TouchByHeightAndPlan, TouchAbove, CutIsTouch};
+ghost use Rattle.sn_geom.specs.SweepLaws.{DiscByRows, DiscHasItsCentre, NearOnePlace, NearEitherWay, NearOfLonger, NearOfLarger, TouchByHeightAndPlan, TouchAbove, CutIsTouch};
+
+pub mod machine;
 
 /// Laws of discs.
 pub fn discs()
-    ensures { DiscByRows }
+    ensures by_rows { DiscByRows }
+    ensures has_its_centre { DiscHasItsCentre }
 {}
 
 /// Laws of nearness to a segment.

@@ -48,6 +48,14 @@ impl Um {
         }
     }
 
+    /// The length of `v` units, which is known to be in the range.
+    pub fn of(v: i32) -> Um
+        requires { IsLength v }
+        ensures { result ≡ v }
+    {
+        Um(v)
+    }
+
     /// The length in micrometres.
     pub fn get(self) -> i32
         ensures value { result ≡ self }
