@@ -1,2 +1,2 @@
-pub mod MemFilesLemmas
+mod MemFilesLemmas
 pub mod SinkLemmas

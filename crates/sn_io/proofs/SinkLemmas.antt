@@ -1,9 +1,9 @@
 -- How what was taken by several writes joins.
-use Rattle.std.proofs.Common.{ℕ, ◌≡◌, ◌+◌, ◌≤◌, List, [], ◌++◌, length, Option, Some, None, IsSome, option_map, refl, sym, ap, ◌∙◌, arith, length-append, append-nil, append_assoc, ◌-◌, take, drop, length-drop}
+use Rattle.std.proofs.Common.{ℕ, ◌≡◌, ◌+◌, ◌≤◌, List, [], ◌++◌, length, Option, Some, None, IsSome, Result, Ok, Err, IsErr, option_map, refl, sym, ap, ◌∙◌, arith, length-append, append-nil, append_assoc, ◌-◌, take, drop, length-drop}
 use Rattle.std.proofs.lemmas.List.{take-append-drop}
 use Rattle.std.proofs.lemmas.List.{take_all}
 use Rattle.sn_io.specs.Count.{count_after, Rises}
-use Rattle.sn_io.specs.Sink.{SinkState, Gains, Takes, TakesFront}
+use Rattle.sn_io.specs.Sink.{SinkState, Gains, Takes, TakesFront, Writes}
 
 pub count_after-none : (count : ℕ) → count_after count 0 ≡ count
 count_after-none count = omega arith
@@ -13,9 +13,6 @@ count_after-more count m n = omega arith
 
 pub rises-later : (a b c : ℕ) → a ≤ b → Rises b c → Rises a c
 rises-later a b c stays rises = omega arith
-
-pub rises-stays : (a b c : ℕ) → Rises a b → b ≤ c → Rises a c
-rises-stays a b c rises stays = omega arith
 
 pub gains-nothing : (held : Option (List ℕ)) → Gains held held []
 gains-nothing None told = refl
@@ -79,3 +76,15 @@ pub front-grows : (text front rest : List ℕ) (n k : ℕ)
 front-grows text front rest n k parts bound =
     let long : length (drop n rest) ≤ k = omega (arith, length-drop n rest) in
     rw (take_all k (drop n rest) long, append_assoc front (take n rest) (drop n rest), take-append-drop n rest) parts
+
+-- a write that stopped within the first piece of a text
+pub writes-first : {T E : Type 0} (r : Result T E) (a b : SinkState) (text p q : List ℕ)
+    → IsErr r → text ≡ p ++ q → TakesFront a b p → Writes r a b text
+writes-first (Ok done) a b text p q stops parts stopped = absurd (cc)
+writes-first (Err fault) a b text p q stops parts stopped = rw parts (takes_front-first a b p q stopped)
+
+-- a write that goes on after the first piece of a text
+pub writes-later : {T E : Type 0} (r : Result T E) (a b c : SinkState) (text p q : List ℕ)
+    → text ≡ p ++ q → Takes a b p → Writes r b c q → Writes r a c text
+writes-later (Ok done) a b c text p q parts first second = rw parts (takes-more a b c p q first second)
+writes-later (Err fault) a b c text p q parts first second = rw parts (takes_front-later a b c p q first second)

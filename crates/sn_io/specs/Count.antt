@@ -1,4 +1,4 @@
--- Counts that stand still at the last value of their type (this project's own).
+-- MEANING: counts that stand still at the last value of their type (this project's own).
 use Rattle.std.specs.Prelude.{ℕ, ◌+◌, ◌≤◌, min, max}
 
 -- the last value of a count, which is kept in 64 bits

@@ -1,10 +1,12 @@
--- The files of the machine as one value: content is not told (this project's own).
-use Rattle.std.specs.Prelude.{ℕ, Bool, false, []}
+-- MEANING: the files of the machine as one value, that tells no content (this project's own).
+use Rattle.std.specs.Prelude.{ℕ, Bool, false, List, [], Option}
 use Rattle.sn_io.specs.Files.{FilesState}
 
--- whether a file is open, and the counts of `FilesState`
+-- is_open: whether a file is open; remaining: the bytes that the machine's open file has yet to give, where they are known,
+-- and none where no file is open; the counts: those of `FilesState`
 pub record DiskFilesState : Type 0 where
   pub is_open : Bool
+  pub remaining : Option (List ℕ)
   pub faults : ℕ
   pub opens : ℕ
   pub reads : ℕ

@@ -1,4 +1,4 @@
--- What files show of themselves, and what opening and reading do to them (this project's own).
+-- MEANING: what files show of themselves, and what opening and reading do to them (this project's own).
 use Rattle.std.specs.Prelude.{ℕ, ◌≡◌, ◌+◌, ◌≤◌, Bool, true, false, IsTrue, List, [], ◌++◌, take, if◌then◌else◌}
 use Rattle.sn_io.specs.Count.{count_after, Rises}
 

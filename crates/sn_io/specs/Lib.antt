@@ -1,6 +1,8 @@
 pub mod Count
+pub mod CountLaws
 pub mod DiskFiles
 pub mod Files
+pub mod FilesLaws
 pub mod MemFiles
 pub mod MemSink
 pub mod OutSink

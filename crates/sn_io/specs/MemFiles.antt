@@ -1,4 +1,4 @@
--- Files in memory as one value, and what each call leaves of it (this project's own).
+-- MEANING: files in memory as one value, and what each call leaves of it (this project's own).
 use Rattle.std.specs.Prelude.{◌≡◌, ◌≢◌, ℕ, ◌+◌, ◌==◌, true, if◌then◌else◌, List, [], drop, Contains, Option, None, Some, is_some, unwrap_or, refl}
 use Rattle.std.specs.Ordering.{nat_cmp}
 use Rattle.std.specs.Cmp.Lexicographic.{slice_cmp}

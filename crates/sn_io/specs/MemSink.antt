@@ -1,4 +1,4 @@
--- A sink in memory as one value (this project's own).
+-- MEANING: a sink in memory as one value (this project's own).
 use Rattle.std.specs.Prelude.{ℕ, ◌+◌, List, length, Contains, Some}
 use Rattle.sn_io.specs.Sink.{SinkState}
 

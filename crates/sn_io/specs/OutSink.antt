@@ -1,4 +1,4 @@
--- An output of the machine as one value: content is not told (this project's own).
+-- MEANING: an output of the machine as one value: content is not told (this project's own).
 use Rattle.std.specs.Prelude.{ℕ, List, Option, None}
 use Rattle.sn_io.specs.Sink.{SinkState}
 

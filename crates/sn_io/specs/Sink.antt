@@ -1,4 +1,4 @@
--- What a sink shows of itself, and what a write does to it (this project's own).
+-- MEANING: what a sink shows of itself, and what a write does to it (this project's own).
 use Rattle.std.specs.Prelude.{ℕ, ◌≡◌, ◌≤◌, List, ◌++◌, length, Option, IsSome, option_map, Result, MatchResult}
 use Rattle.sn_io.specs.Count.{count_after, Rises}
 

@@ -1,6 +1,8 @@
 //! The files of the machine.
-ghost use Rattle.std.specs.Prelude.{◌≡◌, OnOk, OnErr, is_some, false, IsUtf8};
-ghost use Rattle.sn_io.specs.Files.{Opens, IsOpened, IsFault};
+ghost use Rattle.std.specs.Prelude.{◌≡◌, ◌<◌, ◌≤◌, [], length, IsTrue, OnOk, OnErr, IfOk, is_some, false, Some, IsUtf8};
+ghost use Rattle.std.specs.Io.KnownBytes.{ReadConsumes};
+ghost use Rattle.std.specs.Option.{option_map_or};
+ghost use Rattle.sn_io.specs.Files.{Opens, IsOpened, IsFault, Reads, Gives, GivesNothing};
 ghost use Rattle.sn_io.specs.DiskFiles.{DiskFilesState, disk_state};
 
 use crate::calls::count_up;
@@ -25,6 +27,7 @@ impl<R: rt::Files + Drop> Model for DiskFiles<R> {
 
     ghost view = { λ d. record {
       is_open = is_some d.file;
+      remaining = option_map_or R.File.remaining d.file (Some []);
       faults = d.faults;
       opens = d.opens;
       reads = d.reads;
@@ -35,7 +38,7 @@ impl<R: rt::Files + Drop> Model for DiskFiles<R> {
 impl<R: rt::Files + Drop> DiskFiles<R> {
     /// The files that the runtime reaches, none of them open.
     pub fn new(rt: R) -> DiskFiles<R>
-        ensures { result ≡ record { is_open = false; faults = 0; opens = 0; reads = 0; bytes = 0 } }
+        ensures { result ≡ record { is_open = false; remaining = Some []; faults = 0; opens = 0; reads = 0; bytes = 0 } }
     {
         DiskFiles {
             rt,
@@ -71,7 +74,16 @@ impl<R: rt::Files + Drop> Files for DiskFiles<R> {
         Err(Failed)
     }
 
-    fn read(&mut self, buf: &mut [u8]) -> Result<usize, Failed> {
+    fn read(&mut self, buf: &mut [u8]) -> Result<usize, Failed>
+        requires is_open { IsTrue (disk_state self.old).is_open }
+        requires room { 0 < length buf.old }
+        ensures reads { Reads (disk_state self.old) (disk_state self.new) }
+        ensures fits { IfOk result (λ count. count ≤ length buf.new) }
+        ensures gives { IfOk result (λ count. Gives (disk_state self.old) (disk_state self.new) buf.new count) }
+        ensures fault { OnErr result (GivesNothing (disk_state self.old) (disk_state self.new)) }
+
+        ensures consumes { ReadConsumes self.old.remaining self.new.remaining result buf.new }
+    {
         let Some(file) = &mut self.file else {
             unreachable!()
         };

@@ -7,6 +7,7 @@
 mod calls;
 mod disk_files;
 mod files;
+pub mod laws;
 mod mem_files;
 mod mem_sink;
 mod out_sink;
