@@ -1,16 +1,17 @@
-pub mod Bytes
-pub mod Runs
-pub mod Competes
-pub mod Numbers
-pub mod Names
-pub mod NumberReads
-pub mod Quoted
-pub mod Comments
-pub mod Digits
-pub mod Tokens
-pub mod Places
-pub mod KindOf
-pub mod Apart
-pub mod Unique
-pub mod Written
-pub mod Named
+mod Bytes
+mod Runs
+mod Competes
+mod Numbers
+mod Names
+mod NumberReads
+mod Quoted
+mod Comments
+mod Digits
+mod SomethingNext
+mod Tokens
+mod Places
+mod KindOf
+mod Apart
+mod Unique
+mod Written
+mod Named

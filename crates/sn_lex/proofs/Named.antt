@@ -8,10 +8,10 @@ use Rattle.std.specs.Char.{is_ascii_digit}
 use Rattle.std.specs.Str.Parse.{digits_value}
 use Rattle.sn_lex.specs.Character.{is_sign, is_stray, is_name_byte}
 use Rattle.sn_lex.specs.Fault.{BeginsNo, IsNumberBroken, IsNamed}
-use Rattle.sn_lex.specs.Form.{IsCommentBody, IsSeparator, AreSeparators, AreDigits, IsName, IsInteger, IsPlainReal, IsInstanceNumber, IsBadNumber, IsFaultyText, doubled}
+use Rattle.sn_lex.specs.Form.{IsCommentBody, IsSeparator, AreSeparators, AreDigits, IsName, IsInteger, IsPlainReal, IsInstanceNumber, IsBadNumber, IsFaultyText, doubled, HeadFails}
 use Rattle.sn_lex.specs.Reading.{IsForm, separator, token, fault, NoLongerForm, IsNextFault, offset_of}
 use Rattle.sn_lex.specs.Law.{FaultsNamed}
-use Rattle.sn_lex.specs.Split.{HeadFails, LeavesName, ReadsFault, begins_name}
+use Rattle.sn_lex.specs.Split.{LeavesName, ReadsFault, begins_name}
 use Rattle.sn_lex.specs.declared.token.Token.{Token}
 use Rattle.sn_lex.specs.declared.token.Token.TheVariants.{Keyword, Number, Integer, Real, Text, Enumeration, Binary, End}
 use Rattle.sn_lex.specs.declared.token.LexFault.{LexFault}

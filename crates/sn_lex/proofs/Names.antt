@@ -5,9 +5,9 @@ use Rattle.std.specs.Prelude.{codes}
 use Rattle.std.specs.List.{list_all}
 use Rattle.std.specs.Char.{is_ascii_digit}
 use Rattle.sn_lex.specs.Character.{is_upper, is_name_byte}
-use Rattle.sn_lex.specs.Form.{IsName}
+use Rattle.sn_lex.specs.Form.{IsName, HeadFails}
 use Rattle.sn_lex.specs.Reading.{NoLongerForm}
-use Rattle.sn_lex.specs.Split.{HeadFails, SplitsRun, begins_name, LeavesName, ReadsToken, ReadsFault}
+use Rattle.sn_lex.specs.Split.{SplitsRun, begins_name, LeavesName, ReadsToken, ReadsFault}
 use Rattle.sn_lex.specs.declared.token.Token.TheVariants.{FileStart, FileEnd, Keyword, Enumeration}
 use Rattle.sn_lex.specs.declared.token.LexFault.TheVariants.{BadByte, BadEnum}
 use Rattle.sn_lex.specs.declared.opening.Opening.TheVariants.{Word, Exclamation, Point}

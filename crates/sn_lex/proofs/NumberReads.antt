@@ -4,9 +4,9 @@ use Rattle.std.proofs.lemmas.Bool.{true≢false, or_cases, and_from}
 use Rattle.std.specs.Char.{is_ascii_digit}
 use Rattle.std.specs.Str.Parse.{digits_value}
 use Rattle.sn_lex.specs.Character.{is_sign}
-use Rattle.sn_lex.specs.Form.{IsInteger, IsInstanceNumber, IsBadNumber}
+use Rattle.sn_lex.specs.Form.{IsInteger, IsInstanceNumber, IsBadNumber, HeadFails}
 use Rattle.sn_lex.specs.Reading.{NoLongerForm}
-use Rattle.sn_lex.specs.Split.{HeadFails, SplitsRun, LeavesInteger, HasNoInteger, begins_number, ReadsToken, ReadsFault}
+use Rattle.sn_lex.specs.Split.{SplitsRun, LeavesInteger, HasNoInteger, begins_number, ReadsToken, ReadsFault}
 use Rattle.sn_lex.specs.declared.token.Token.TheVariants.{Integer, Real, Number}
 use Rattle.sn_lex.specs.declared.token.LexFault.TheVariants.{BadNumber}
 use Rattle.sn_lex.specs.declared.opening.Opening.TheVariants.{Number as NumberOpening, Hash}

@@ -4,8 +4,8 @@ use Rattle.std.proofs.lemmas.Bool.{and_parts, both_ways, true≢false, or_left, 
 use Rattle.std.specs.List.{list_all}
 use Rattle.std.specs.Char.{is_ascii_digit}
 use Rattle.sn_lex.specs.Character.{is_sign}
-use Rattle.sn_lex.specs.Form.{IsInteger, IsPlainReal, IsScaledReal, IsBrokenReal}
-use Rattle.sn_lex.specs.Split.{HeadFails, SplitsRun, HasNoInteger, LeavesInteger, unsigned}
+use Rattle.sn_lex.specs.Form.{IsInteger, IsPlainReal, IsScaledReal, IsBrokenReal, HeadFails}
+use Rattle.sn_lex.specs.Split.{SplitsRun, HasNoInteger, LeavesInteger, unsigned}
 use Rattle.sn_lex.proofs.Runs.{run_bounds, one_run}
 use Rattle.sn_lex.proofs.Bytes.{sign_no_digit}
 

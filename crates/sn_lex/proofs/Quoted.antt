@@ -2,10 +2,10 @@
 use Rattle.std.proofs.Common.{◌≡◌, ℕ, ◌+◌, ◌≤◌, true, false, cond, eqb, List, [], ◌∷◌, ◌++◌, length, append_assoc, length-append, append-nil, refl, sym, ap, ◌∙◌, subst, arith, inl, inr, ◌⊎◌, eq-eqb, ne_eqb}
 use Rattle.std.proofs.lemmas.Bool.{both_ways, true≢false, cases_eq, cond-true, cond-false}
 use Rattle.sn_lex.specs.Character.{is_hex_digit, is_unused_count}
-use Rattle.sn_lex.specs.Form.{doubled, IsTextOf}
+use Rattle.sn_lex.specs.Form.{doubled, IsTextOf, HeadFails}
 use Rattle.sn_lex.specs.Reading.{NoLongerForm}
 use Rattle.sn_lex.specs.Law.{OneValue}
-use Rattle.sn_lex.specs.Split.{HeadFails, SplitsRun, LeavesString, IsInString, ReadsToken, ReadsFault}
+use Rattle.sn_lex.specs.Split.{SplitsRun, LeavesString, IsInString, ReadsToken, ReadsFault}
 use Rattle.sn_lex.specs.declared.token.Token.TheVariants.{Text, Binary}
 use Rattle.sn_lex.specs.declared.token.LexFault.TheVariants.{BadByte, OpenString}
 use Rattle.sn_lex.specs.declared.opening.Opening.TheVariants.{Apostrophe, Quotation}

@@ -2,7 +2,8 @@
 use Rattle.std.proofs.Common.{◌≡◌, ℕ, suc, ◌+◌, ◌≤◌, Bool, true, false, cond, List, [], ◌∷◌, ◌++◌, length, take, drop, refl, sym, ap, subst, arith}
 use Rattle.std.proofs.lemmas.Bool.{and_parts, and_from, both_ways}
 use Rattle.std.specs.List.{list_all, prefix_len}
-use Rattle.sn_lex.specs.Split.{HeadFails, SplitsRun}
+use Rattle.sn_lex.specs.Form.{HeadFails}
+use Rattle.sn_lex.specs.Split.{SplitsRun}
 
 pub prefix_len_le : (test : ℕ → Bool) (xs : List ℕ) → prefix_len test xs ≤ length xs
 prefix_len_le test [] = omega arith

@@ -5,9 +5,9 @@ use Rattle.std.proofs.lemmas.Bool.Decides.{nat_tests}
 use Rattle.std.specs.Prelude.{ok_or}
 use Rattle.std.specs.Char.{is_ascii_digit, is_ascii_whitespace}
 use Rattle.sn_lex.specs.Character.{is_upper, is_sign, is_stray}
-use Rattle.sn_lex.specs.Form.{IsCommentBody, IsTextOf, IsFaultyText}
+use Rattle.sn_lex.specs.Form.{IsCommentBody, IsTextOf, IsFaultyText, HeadFails}
 use Rattle.sn_lex.specs.Reading.{NoLongerForm, offset_of}
-use Rattle.sn_lex.specs.Split.{HeadFails, HasNoSeparator, LeavesComment, ReadsToken, ReadsFault}
+use Rattle.sn_lex.specs.Split.{HasNoSeparator, LeavesComment, ReadsToken, ReadsFault}
 use Rattle.sn_lex.specs.declared.token.Token.{Token}
 use Rattle.sn_lex.specs.declared.token.Token.TheVariants.{LeftParen, RightParen, Comma, Semicolon, Equals, Dollar, Star}
 use Rattle.sn_lex.specs.declared.token.LexFault.{LexFault}

@@ -6,7 +6,7 @@ use Rattle.std.specs.Char.{is_ascii_digit, is_ascii_whitespace}
 use Rattle.sn_lex.specs.Character.{is_sign}
 use Rattle.sn_lex.specs.Form.{AreSeparators, IsTextOf, IsFaultyText}
 use Rattle.sn_lex.specs.Reading.{IsForm, separator, token, fault, NoLongerForm, IsNextToken, IsNextFault, offset_of, AreTokensBetween, StopsAt}
-use Rattle.sn_lex.specs.Law.{OneNext, TokensHaveBytes, OneTokenisation}
+use Rattle.sn_lex.specs.Law.{TokensHaveBytes, OneTokenisation}
 use Rattle.sn_lex.specs.Split.{HasNoSeparator}
 use Rattle.sn_lex.specs.declared.token.Token.{Token}
 use Rattle.sn_lex.specs.declared.token.Token.TheVariants.{Keyword, Integer, End}
@@ -100,9 +100,6 @@ next_not_both bytes at t span f next again =
     let text = same_text bytes span.at (offset_of f) span.len again.len place len in
     token_or_fault t f _ next.text (subst (IsFaultyText f) (sym text) again.text)
 
-pub one_next : OneNext
-one_next = (next_token_once, next_fault_once, next_not_both)
-
 -- Some form begins with each byte.
 
 byte_form_at : (o : Opening) (c : ℕ) → opening_of c ≡ o → IsForm (c ∷ [])
@@ -123,7 +120,7 @@ byte_form_at Other c is = elim (cases_Bool (is_ascii_whitespace c)) [
   | inr dark ↦ fault (BadByte 0) (c, other_is c is dark, refl)
 ]
 
-byte_form : (c : ℕ) → IsForm (c ∷ [])
+pub byte_form : (c : ℕ) → IsForm (c ∷ [])
 byte_form c = byte_form_at (opening_of c) c refl
 
 -- The second law.

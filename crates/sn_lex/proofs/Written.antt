@@ -7,10 +7,10 @@ use Rattle.std.specs.Prelude.{codes}
 use Rattle.std.specs.List.{list_all}
 use Rattle.std.specs.Char.{is_ascii_digit, is_ascii_whitespace}
 use Rattle.sn_lex.specs.Character.{is_name_byte, is_mark}
-use Rattle.sn_lex.specs.Form.{IsName, IsInteger, doubled, IsInstanceNumber, IsTextOf}
+use Rattle.sn_lex.specs.Form.{IsName, IsInteger, doubled, IsInstanceNumber, IsTextOf, HeadFails}
 use Rattle.sn_lex.specs.Reading.{NoLongerForm}
 use Rattle.sn_lex.specs.Law.{IsDelimited, ReadsWritten}
-use Rattle.sn_lex.specs.Split.{HeadFails, SplitsRun, LeavesInteger, ReadsToken, begins_name}
+use Rattle.sn_lex.specs.Split.{SplitsRun, LeavesInteger, ReadsToken, begins_name}
 use Rattle.sn_lex.specs.declared.token.Token.{Token}
 use Rattle.sn_lex.specs.declared.token.Token.TheVariants.{FileStart, FileEnd, Keyword, Number, Integer, Real, Text, Enumeration, Binary, LeftParen, RightParen, Comma, Semicolon, Equals, Dollar, Star, End}
 use Rattle.sn_lex.specs.declared.opening.Opening.TheVariants.{Mark}

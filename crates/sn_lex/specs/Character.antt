@@ -1,5 +1,5 @@
--- The bytes of ISO 10303-21 clear text by their use, in this project's profile. Separators' bytes are std's
--- `is_ascii_whitespace`: blank, tab, carriage return, line feed and form feed.
+-- MEANING (ISO 10303-21, basic alphabet, in this project's profile): the bytes of clear text by their use. Separators' bytes are
+-- std's `is_ascii_whitespace`: blank, tab, carriage return, line feed and form feed.
 use Rattle.std.specs.Prelude.{ℕ, Bool, ◌&&◌, ◌||◌, ◌==◌, not, nat_le, List, codes}
 use Rattle.std.specs.List.{list_any}
 use Rattle.std.specs.Char.{is_ascii_digit, is_ascii_uppercase, is_ascii_whitespace}

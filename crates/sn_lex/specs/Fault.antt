@@ -1,10 +1,9 @@
--- What each fault says of the bytes from its offset on, without the longest form.
+-- MEANING (this project's own): what each fault says of the bytes from its offset on, without the longest form.
 use Rattle.std.specs.Prelude.{◌≡◌, ℕ, ◌⊎◌, List, ◌∷◌, ◌++◌, IsTrue, codes}
 use Rattle.std.specs.Char.{is_ascii_digit}
 use Rattle.std.specs.Str.Parse.{digits_value}
 use Rattle.sn_lex.specs.Character.{is_sign, is_stray}
-use Rattle.sn_lex.specs.Form.{IsCommentBody, AreDigits, doubled, IsPlainReal, IsInstanceNumber, IsTextOf}
-use Rattle.sn_lex.specs.Split.{HeadFails}
+use Rattle.sn_lex.specs.Form.{IsCommentBody, AreDigits, doubled, HeadFails, IsPlainReal, IsInstanceNumber, IsTextOf}
 use Rattle.sn_lex.specs.declared.token.Token.{Token}
 use Rattle.sn_lex.specs.declared.token.Token.TheVariants.{Keyword, Integer, Enumeration, Binary}
 use Rattle.sn_lex.specs.declared.token.LexFault.{LexFault}

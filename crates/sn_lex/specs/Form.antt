@@ -1,5 +1,6 @@
--- The texts of separators, of tokens and of faulty tokens: ISO 10303-21 in this project's profile.
-use Rattle.std.specs.Prelude.{◌≡◌, ℕ, ◌^◌, ◌<◌, ◌⊎◌, cond, ◌==◌, List, [], ◌∷◌, ◌++◌, length, IsTrue, codes}
+-- MEANING (ISO 10303-21, tokens and token separators, in this project's profile): the texts of separators, of tokens and of
+-- faulty tokens.
+use Rattle.std.specs.Prelude.{◌≡◌, ℕ, ◌^◌, ◌<◌, ◌⊎◌, cond, ◌==◌, List, [], ◌∷◌, ◌++◌, length, Bool, IsTrue, IsFalse, codes}
 use Rattle.std.specs.List.{list_all, concat, AllByRecursion}
 use Rattle.std.specs.Char.{is_ascii_digit, is_ascii_whitespace}
 use Rattle.std.specs.Str.Parse.{digits_value}
@@ -30,6 +31,11 @@ abbrev pub AreSeparators : List ℕ → Type 0
 AreSeparators text = (parts : List (List ℕ)) × AllByRecursion IsSeparator parts × (text ≡ concat parts)
 
 -- Parts of tokens.
+
+-- the first byte, if there is one, does not pass
+abbrev pub HeadFails : (ℕ → Bool) → List ℕ → Type 0
+HeadFails test [] = Unit {0}
+HeadFails test (c ∷ cs) = IsFalse (test c)
 
 -- at least one digit, and digits alone
 abbrev pub AreDigits : List ℕ → Type 0

@@ -1,4 +1,4 @@
--- Laws of the tokens of bytes, which the functions of these names state.
+-- MEANING (this project's own): laws of the tokens of bytes, which the functions of these names state.
 use Rattle.std.specs.Prelude.{◌≡◌, ◌≢◌, ℕ, ◌+◌, ◌<◌, ◌≤◌, ◌⊎◌, ◌||◌, List, [], ◌∷◌, ◌++◌, length, drop, slice_range, Option, IsTrue}
 use Rattle.std.specs.Char.{is_ascii_whitespace}
 use Rattle.sn_lex.specs.Character.{is_mark}
@@ -10,12 +10,13 @@ use Rattle.sn_lex.specs.declared.token.Token.TheVariants.{End}
 use Rattle.sn_lex.specs.declared.token.Span.{Span}
 use Rattle.sn_lex.specs.declared.token.LexFault.{LexFault}
 
--- what stands next is one token at one span, or one fault, and not both
+-- what stands next is one token at one span, or one fault, and not both; it cannot be that neither stands there
 abbrev pub OneNext : Type 0
 OneNext =
     ((bytes : List ℕ) (at : ℕ) (t u : Token) (span other : Span) → IsNextToken bytes at t span → IsNextToken bytes at u other → (t ≡ u) × (span ≡ other))
     × ((bytes : List ℕ) (at : ℕ) (f g : LexFault) → IsNextFault bytes at f → IsNextFault bytes at g → f ≡ g)
     × ((bytes : List ℕ) (at : ℕ) (t : Token) (span : Span) (f : LexFault) → IsNextToken bytes at t span → IsNextFault bytes at f → ⊥)
+    × ((bytes : List ℕ) (at : ℕ) → at ≤ length bytes → ((t : Token) (span : Span) → ¬ IsNextToken bytes at t span) → ((f : LexFault) → ¬ IsNextFault bytes at f) → ⊥)
 
 -- each token but End has a byte, and so has a faulty one; End stands exactly where separators alone are left
 abbrev pub TokensHaveBytes : Type 0

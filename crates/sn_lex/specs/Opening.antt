@@ -1,5 +1,5 @@
--- The forms that begin with a byte, given by its code: 35 is #, 39 the apostrophe, 46 the point, 33 the exclamation
--- mark, 34 the quotation mark and 47 the solidus.
+-- Private (only the functions of this crate cite these words): the forms that begin with a byte, given by its code: 35 is #, 39
+-- the apostrophe, 46 the point, 33 the exclamation mark, 34 the quotation mark and 47 the solidus.
 use Rattle.std.specs.Prelude.{ℕ, if◌then◌else◌, ◌==◌, ◌||◌}
 use Rattle.std.specs.Char.{is_ascii_digit}
 use Rattle.sn_lex.specs.Character.{is_upper, is_sign}

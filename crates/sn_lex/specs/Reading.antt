@@ -1,4 +1,4 @@
--- What stands in the bytes at a place, and the tokens of the whole bytes.
+-- MEANING (this project's own): what stands in the bytes at a place, and the tokens of the whole bytes.
 use Rattle.std.specs.Prelude.{◌≡◌, ◌≢◌, ℕ, ◌+◌, ◌≤◌, List, [], ◌∷◌, ◌++◌, length, drop, slice_range, Option, Some, None}
 use Rattle.sn_lex.specs.Form.{IsSeparator, AreSeparators, IsTextOf, IsFaultyText}
 use Rattle.sn_lex.specs.declared.token.Token.{Token}

@@ -1,17 +1,13 @@
--- How a text is split at the end of its longest front of a kind.
-use Rattle.std.specs.Prelude.{◌≡◌, ℕ, ◌==◌, Bool, false, cond, ◌||◌, List, [], ◌∷◌, ◌++◌, length, IsTrue, IsFalse, codes}
+-- Private (only the functions of this crate cite these words): how a text is split at the end of its longest front of a
+-- kind.
+use Rattle.std.specs.Prelude.{◌≡◌, ℕ, ◌==◌, Bool, false, cond, ◌||◌, List, [], ◌∷◌, ◌++◌, length, IsTrue, codes}
 use Rattle.std.specs.List.{list_all}
 use Rattle.std.specs.Char.{is_ascii_digit}
 use Rattle.sn_lex.specs.Character.{is_upper, is_name_byte, is_sign}
-use Rattle.sn_lex.specs.Form.{IsName, IsInteger, IsSeparator, AreSeparators, IsCommentBody, doubled, IsTextOf, IsFaultyText}
+use Rattle.sn_lex.specs.Form.{HeadFails, IsName, IsInteger, IsSeparator, AreSeparators, IsCommentBody, doubled, IsTextOf, IsFaultyText}
 use Rattle.sn_lex.specs.Reading.{NoLongerForm}
 use Rattle.sn_lex.specs.declared.token.Token.{Token}
 use Rattle.sn_lex.specs.declared.token.LexFault.{LexFault}
-
--- the first byte, if there is one, does not pass
-abbrev pub HeadFails : (ℕ → Bool) → List ℕ → Type 0
-HeadFails test [] = Unit {0}
-HeadFails test (c ∷ cs) = IsFalse (test c)
 
 -- the run is the longest front of the bytes in which each byte passes
 pub record SplitsRun (test : ℕ → Bool) (bytes run after : List ℕ) : Type 0 where

@@ -1,7 +1,7 @@
 //! Laws of the definitions, for proofs above. The functions do nothing.
 ghost use Rattle.sn_lex.specs.Law.{OneNext, TokensHaveBytes, FaultsNamed, OneTokenisation, OneValue, ReadsWritten};
 
-/// What is read next is one token at one place, or one fault.
+/// What stands next is one token at one place or one fault, and not both.
 pub fn one_next()
     ensures { OneNext }
 {}

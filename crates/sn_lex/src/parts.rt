@@ -3,7 +3,8 @@ ghost use Rattle.std.specs.Prelude.{◌≡◌, ◌==◌, ◌≤◌, ◌∷◌, f
 ghost use Rattle.std.specs.List.{prefix_len};
 ghost use Rattle.std.specs.Char.{is_ascii_digit};
 ghost use Rattle.sn_lex.specs.Character.{is_name_byte, is_hex_digit};
-ghost use Rattle.sn_lex.specs.Split.{HeadFails, SplitsRun, begins_name, LeavesName, unsigned, LeavesInteger, HasNoInteger};
+ghost use Rattle.sn_lex.specs.Form.{HeadFails};
+ghost use Rattle.sn_lex.specs.Split.{SplitsRun, begins_name, LeavesName, unsigned, LeavesInteger, HasNoInteger};
 
 use crate::character::{is_hex_digit, is_name_byte, is_sign, is_upper};
 

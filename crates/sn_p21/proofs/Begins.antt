@@ -9,7 +9,7 @@ use Rattle.sn_p21.specs.declared.grammar.place.Place.TheVariants.{TypedList}
 use Rattle.sn_p21.specs.declared.grammar.reader.Reader.{Reader}
 use Rattle.sn_p21.specs.FirstFault.{BeginWithin, Begin, within, typed}
 use Rattle.sn_p21.specs.Word.{Word, IsSpelled, keyword}
-use Rattle.sn_p21.specs.Machine.{unexpected, step, step_at, start}
+use Rattle.sn_p21.specs.Reader.{unexpected, step, step_at, start}
 use Rattle.sn_p21.proofs.FilesRead.{file_is_read, front_all}
 use Rattle.sn_p21.proofs.FileKept.{content, join_all, start_kept, whole_is_file}
 use Rattle.sn_p21.proofs.Kept.{KeptAt}

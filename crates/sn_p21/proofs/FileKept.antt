@@ -15,7 +15,7 @@ use Rattle.sn_p21.specs.Content.{Content}
 use Rattle.sn_p21.specs.Word.{Word, IsSpelled}
 use Rattle.sn_p21.specs.Grammar.{entity_words, enclosed_words, parts_words, instance_words, header_words, AreInstanceWords, AreDataWords, file_words, opening_words, middle_words, closing_words, AreFileWords, IsNestedWithin, IsWhole, header_names, IsFileWithin, IsFile}
 use Rattle.sn_p21.specs.PartText.{IsPartText}
-use Rattle.sn_p21.specs.Machine.{step, ends_header, start}
+use Rattle.sn_p21.specs.Reader.{step, ends_header, start}
 use Rattle.sn_p21.proofs.FilesRead.{Fits, HeaderFrom, AllFit, front_all, back_all, same_bytes}
 use Rattle.sn_p21.proofs.Kept.{Kept, KeptAt}
 use Rattle.sn_p21.proofs.KeptLemmas.{same_reader}

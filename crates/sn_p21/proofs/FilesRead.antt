@@ -1,5 +1,6 @@
 -- The words of a file are read as that file.
-use Rattle.std.proofs.Common.{◌≡◌, ◌≢◌, ℕ, ◌+◌, ◌<◌, ◌≤◌, Bool, true, false, cond, ◌&&◌, nat_lt, inl, inr, List, [], ◌∷◌, ◌++◌, length, map, take, flat_map, codes, Ok, Err, refl, sym, ap, subst, ◌∙◌, append_assoc, append-nil, length-append, arith, rules, tests}
+use Rattle.std.proofs.Common.{◌≡◌, ◌≢◌, ℕ, ◌+◌, ◌<◌, ◌≤◌, Bool, true, false, cond, nat_lt, inl, inr, List, [], ◌∷◌, ◌++◌, length, map, take, flat_map, codes, Ok, Err, refl, sym, ap, subst, ◌∙◌, append_assoc, append-nil, length-append, arith, rules, tests}
+use Rattle.std.proofs.lemmas.Bool.{false_from_ne_true, and_right, and_from}
 use Rattle.std.specs.List.{AllByRecursion}
 use Rattle.std.specs.Str.{bytes_eq}
 use Rattle.std.proofs.lemmas.Bool.Decides.{nat_tests}
@@ -19,7 +20,7 @@ use Rattle.sn_p21.specs.Content.{Content}
 use Rattle.sn_p21.specs.Numbers.{has_number, NumbersDiffer}
 use Rattle.sn_p21.specs.Word.{Word, mark, keyword}
 use Rattle.sn_p21.specs.Grammar.{list_words, entity_words, header_words, enclosed_words, instance_words, AreInstanceWords, AreDataWords, opening_words, middle_words, closing_words, AreFileWords, IsNestedWithin, IsWhole, header_names, entities_of, IsFileWithin}
-use Rattle.sn_p21.specs.Machine.{Step, Refusal, unexpected, twice, takes_entity, empty_list, names_header_entity, ends_header, starts_entity, start}
+use Rattle.sn_p21.specs.Reader.{Step, Refusal, unexpected, twice, takes_entity, empty_list, names_header_entity, ends_header, starts_entity, start}
 use Rattle.sn_p21.proofs.NumberLemmas.{has_number-false, new_number}
 use Rattle.sn_p21.proofs.ParamsRead.{Known, params_of, words_of, deepest, list_words_is, body_is_read, param_is_read}
 use Rattle.sn_p21.proofs.Runs.{and_then, run}
@@ -33,20 +34,8 @@ HasPart i = 0 < length i.parts
 
 -- Headers.
 
-not_true : (b : Bool) → (b ≡ true → ⊥) → b ≡ false
-not_true true h = absurd (h refl)
-not_true false h = refl
-
-and_false : (a b : Bool) → b ≡ false → (a && b) ≡ false
-and_false true b h = h
-and_false false b h = refl
-
-and_both : (a b : Bool) → a ≡ true → b ≡ true → (a && b) ≡ true
-and_both true b h k = k
-and_both false b h k = h
-
 not_ending : (count : ℕ) (k : List ℕ) → k ≢ codes "ENDSEC" → ends_header count Keyword k ≡ false
-not_ending count k h = and_false (nat_lt 2 count) (bytes_eq k (codes "ENDSEC")) (not_true _ (λ e. h ((bytes_eq-Decides k (codes "ENDSEC")).0 e)))
+not_ending count k h = and_right (nat_lt 2 count) (bytes_eq k (codes "ENDSEC")) (false_from_ne_true _ (λ e. h ((bytes_eq-Decides k (codes "ENDSEC")).0 e)))
 
 late_name : (count : ℕ) (k : List ℕ) → 3 ≤ count → names_header_entity count Keyword k ≡ true
 late_name count k h = grind (arith, nat_tests)
@@ -251,6 +240,6 @@ module _ (limit : ℕ) where
         all.1,
         ap (run limit start) (words.2 ∙ regrouped hw words.0)
             ∙ header_is_read h [] [] 0 [] (middle_words ++ rest) (header_from h rule.names rule.no_end in_header)
-            ∙ ended_step (ends_header (length h) Keyword (codes "ENDSEC")) (base (FixedAt fixed.HeaderSectionEnd) h [] 0 [] owner.Header) _ (mark Semicolon ∷ keyword (codes "DATA") ∷ mark Semicolon ∷ rest) (and_both _ _ (let t : 3 ≤ length h = three_in_header h rule.names in search (rules, tests)) refl)
+            ∙ ended_step (ends_header (length h) Keyword (codes "ENDSEC")) (base (FixedAt fixed.HeaderSectionEnd) h [] 0 [] owner.Header) _ (mark Semicolon ∷ keyword (codes "DATA") ∷ mark Semicolon ∷ rest) (and_from _ _ (let t : 3 ≤ length h = three_in_header h rule.names in search (rules, tests)) refl)
             ∙ all.2,
       )

@@ -16,7 +16,7 @@ use Rattle.sn_p21.specs.declared.limits.TheConstants.{MAX_OPEN_LISTS}
 use Rattle.sn_p21.specs.Content.{Content}
 use Rattle.sn_p21.specs.FirstFault.{Begin, IsWordFault, Stops, lex, word, end, IsFirstFault, OneFault}
 use Rattle.sn_p21.specs.Grammar.{AreFileWords, IsFile}
-use Rattle.sn_p21.specs.Machine.{Step, Refusal, Refuses, Steps, value_of, step, start}
+use Rattle.sn_p21.specs.Reader.{Step, Refusal, Refuses, Steps, value_of, step, start}
 use Rattle.sn_p21.specs.PartText.{IsPartText, OneFile}
 use Rattle.sn_p21.specs.Word.{Word, IsSpelled, IsNextWord, AreWordsBetween, mark}
 use Rattle.sn_p21.proofs.Begins.{Ran, begin_ran, ran_begins}
@@ -140,7 +140,7 @@ whole_no_stop law ends bytes to ws f why within separators rule derived (end aga
 to_within : (bytes : List ℕ) (to : ℕ) (ws : List Word) → AreWordsBetween bytes 0 to ws → to ≤ length bytes
 to_within bytes to ws a = between_within ws bytes 0 to (omega arith) a
 
-one_first : OneNext → EndIsNext → (bytes : List ℕ) (why other : P21Fault) → IsFirstFault bytes why → IsFirstFault bytes other → why ≡ other
+pub one_first : OneNext → EndIsNext → (bytes : List ℕ) (why other : P21Fault) → IsFirstFault bytes why → IsFirstFault bytes other → why ≡ other
 one_first law ends bytes why other p q = by (compare law p.ws q.ws bytes 0 p.to q.to p.words q.words)
   where
     by : Compared bytes p.to q.to p.ws q.ws → why ≡ other
@@ -151,16 +151,13 @@ one_first law ends bytes why other p q = by (compare law p.ws q.ws bytes 0 p.to 
 part_ran : (bytes : List ℕ) (f : Content) → (p : IsPartText bytes f) → Ran MAX_OPEN_LISTS p.ws
 part_ran bytes f p = let r = file_is_read MAX_OPEN_LISTS f p.ws p.derived p.rule in (_, r.2)
 
-part_no_fault : OneNext → EndIsNext → (bytes : List ℕ) (f : Content) (why : P21Fault) → IsPartText bytes f → IsFirstFault bytes why → ⊥
+pub part_no_fault : OneNext → EndIsNext → (bytes : List ℕ) (f : Content) (why : P21Fault) → IsPartText bytes f → IsFirstFault bytes why → ⊥
 part_no_fault law ends bytes f why p q = by (compare law p.ws q.ws bytes 0 p.words.0 q.to p.words.1 q.words)
   where
     by : Compared bytes p.words.0 q.to p.ws q.ws → ⊥
     by (same e g) = whole_no_stop law ends bytes p.words.0 p.ws f why (to_within bytes p.words.0 p.ws p.words.1) p.words.2 p.rule p.derived (subst (λ x. Stops bytes x p.ws why) (sym g) (subst (λ xs. Stops bytes q.to xs why) (sym e) q.stops))
     by (longer w more span e n) = none_after law ends bytes p.words.0 p.ws more q.ws w span (to_within bytes p.words.0 p.ws p.words.1) p.words.2 n e (begin_ran q.ws q.begin)
     by (shorter w more span e n) = stops_last law ends bytes q.to q.ws more p.ws w span why (to_within bytes q.to q.ws q.words) q.stops n (between_spelled p.ws bytes 0 p.words.0 p.words.1) e (part_ran bytes f p)
-
-pub one_fault_from : OneNext → EndIsNext → OneFault
-one_fault_from law ends = (one_first law ends, part_no_fault law ends)
 
 pub one_file_from : OneNext → EndIsNext → OneFile
 one_file_from law ends bytes f g p q = by (compare law p.ws q.ws bytes 0 p.words.0 q.words.0 p.words.1 q.words.1)

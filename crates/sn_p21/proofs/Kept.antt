@@ -16,7 +16,7 @@ use Rattle.sn_p21.specs.declared.grammar.reader.Reader.{Reader}
 use Rattle.sn_p21.specs.Numbers.{has_number, NumbersDiffer}
 use Rattle.sn_p21.specs.Word.{Word, mark, keyword}
 use Rattle.sn_p21.specs.Grammar.{param_words, entity_words, header_words, AreDataWords, opening_words, middle_words}
-use Rattle.sn_p21.specs.Machine.{empty_list, is_typed, names_header_entity, ends_header}
+use Rattle.sn_p21.specs.Reader.{empty_list, is_typed, names_header_entity, ends_header}
 use Rattle.sn_p21.proofs.FilesRead.{Fits, HeaderFrom, HasPart, AllFit}
 use Rattle.sn_p21.proofs.ListWords.{begun, lead, comma_words, Around, AllAround, AllFitAt, HeadPlain}
 

@@ -10,7 +10,7 @@ use Rattle.sn_p21.specs.declared.file.Instance.{Instance}
 use Rattle.sn_p21.specs.declared.grammar.reader.Reader.{Reader}
 use Rattle.sn_p21.specs.Word.{Word, Carries, mark, keyword}
 use Rattle.sn_p21.specs.Grammar.{header_words, AreInstanceWords, AreDataWords}
-use Rattle.sn_p21.specs.Machine.{Step, Refusal, is_keyword_named, is_semicolon, is_equals, is_file_start, is_file_end, is_keyword, names_header_entity, ends_header}
+use Rattle.sn_p21.specs.Reader.{Step, Refusal, is_keyword_named, is_semicolon, is_equals, is_file_start, is_file_end, is_keyword, names_header_entity, ends_header}
 use Rattle.sn_p21.proofs.FilesRead.{Fits, HeaderFrom}
 
 -- Answers of a step.

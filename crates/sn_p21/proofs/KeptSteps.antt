@@ -19,7 +19,7 @@ use Rattle.sn_p21.specs.declared.grammar.reader.Reader.{Reader}
 use Rattle.sn_p21.specs.Numbers.{has_number, NumbersDiffer}
 use Rattle.sn_p21.specs.Word.{Word, Carries, mark, keyword}
 use Rattle.sn_p21.specs.Grammar.{param_words, entity_words, header_words, instance_words, AreInstanceWords, AreDataWords, opening_words, middle_words}
-use Rattle.sn_p21.specs.Machine.{twice, deep, accepts, place_after, closes, closes_in, takes_entity, takes_param, list_param, param_of_list, list_with, empty_list, opens, first_place, names_header_entity, ends_header}
+use Rattle.sn_p21.specs.Reader.{twice, deep, accepts, place_after, closes, closes_in, takes_entity, takes_param, list_param, param_of_list, list_with, empty_list, opens, first_place, names_header_entity, ends_header}
 use Rattle.sn_p21.proofs.NumberLemmas.{not_has_number, differ_push}
 use Rattle.sn_p21.proofs.ParamLayers.{words_list}
 use Rattle.sn_p21.proofs.FilesRead.{Fits, HeaderFrom, HasPart, AllFit}

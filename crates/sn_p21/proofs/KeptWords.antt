@@ -1,7 +1,7 @@
 -- Every step keeps the words that were read.
-use Rattle.std.proofs.Common.{◌≡◌, ℕ, ◌+◌, ◌<◌, ◌≤◌, Bool, true, false, ◌&&◌, cond, eqb, inr, ⊎_elim, List, [], ◌∷◌, ◌++◌, length, flat_map, codes, Ok, refl, sym, ap, subst, ◌∙◌, append_assoc, append-nil, arith}
+use Rattle.std.proofs.Common.{◌≡◌, ℕ, ◌+◌, ◌<◌, ◌≤◌, Bool, true, false, cond, eqb, inr, ⊎_elim, List, [], ◌∷◌, ◌++◌, length, flat_map, codes, Ok, refl, sym, ap, subst, ◌∙◌, append_assoc, append-nil, arith}
 use Rattle.std.specs.List.{AllByRecursion}
-use Rattle.std.proofs.lemmas.Bool.{ltb-true}
+use Rattle.std.proofs.lemmas.Bool.{ltb-true, and_parts}
 use Rattle.sn_lex.specs.declared.token.Token.{Token}
 use Rattle.sn_lex.specs.declared.token.Token.TheVariants.{FileStart, FileEnd, Keyword, Number, Integer, Real, Text, Enumeration, Binary, LeftParen, RightParen, Comma, Semicolon, Equals, Dollar, Star, End}
 use Rattle.sn_p21.specs.declared.file.Param.{Param}
@@ -18,17 +18,13 @@ use Rattle.sn_p21.specs.declared.grammar.reader.Reader.{Reader}
 use Rattle.sn_p21.specs.Numbers.{has_number}
 use Rattle.sn_p21.specs.Word.{Word, Carries, mark, keyword}
 use Rattle.sn_p21.specs.Grammar.{param_words, enclosed_words, instance_words, nesting, is_whole}
-use Rattle.sn_p21.specs.Machine.{unexpected, twice, step, step_at, accepts, place_after, takes_instance, list_param, param_of_list, takes_param, empty_list, is_typed, names_header_entity, ends_header, starts_entity, step_param, step_first_param, step_instance, is_keyword_named, is_keyword}
+use Rattle.sn_p21.specs.Reader.{unexpected, twice, step, step_at, accepts, place_after, takes_instance, list_param, param_of_list, takes_param, empty_list, is_typed, names_header_entity, ends_header, starts_entity, step_param, step_first_param, step_instance, is_keyword_named, is_keyword}
 use Rattle.sn_p21.proofs.ParamLayers.{words_int, words_real, words_text, words_enum, words_binary, words_ref, words_absent, words_derived, words_list, nesting_int, nesting_real, nesting_text, nesting_enum, nesting_binary, nesting_ref, nesting_absent, nesting_derived, whole_int, whole_real, whole_text, whole_enum, whole_binary, whole_ref, whole_absent, whole_derived}
 use Rattle.sn_p21.proofs.FilesRead.{Fits}
 use Rattle.sn_p21.proofs.ListWords.{begun, lead, comma_words, comma_words_push, closed_words, FitsAt, list_fits, empty_fits, AllAround, AllFitAt, HeadPlain}
 use Rattle.sn_p21.proofs.Kept.{InHeader, InData, number_words, complex_words, Before, outside, InList, BehindParam, NumberAnd, KeptAt, IsOutside, Kept}
 use Rattle.sn_p21.proofs.KeptLemmas.{Gave, same_reader, no_reader, went, passed, either, word, named_word, keyword_word, grown}
 use Rattle.sn_p21.proofs.KeptSteps.{gone, fixed_kept, param_kept, opened_kept, instance_kept, Closing, closed_kept}
-
-pub and_parts : (a b : Bool) → (a && b) ≡ true → (a ≡ true) × (b ≡ true)
-and_parts true b h = (refl, h)
-and_parts false b h = absurd (let e : false ≡ true = h in cc)
 
 keyword_token : (t : Token) → is_keyword t ≡ true → t ≡ Keyword
 keyword_token Keyword e = refl

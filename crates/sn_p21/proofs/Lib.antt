@@ -1,25 +1,27 @@
-pub mod Begins
-pub mod CanonicalRead
-pub mod FileKept
-pub mod FilesRead
-pub mod FirstFaults
-pub mod InstanceLemmas
-pub mod Kept
-pub mod KeptLemmas
-pub mod KeptSteps
-pub mod KeptWords
-pub mod ListWords
-pub mod Live
-pub mod NumberLemmas
-pub mod ParamLayers
-pub mod ParamsRead
-pub mod Runs
-pub mod SpacedWords
-pub mod SpellingLemmas
-pub mod StepLemmas
-pub mod Texts
-pub mod TwoLimits
-pub mod ValueLemmas
-pub mod ValueWords
-pub mod WordFaults
-pub mod WordsRead
+mod Begins
+mod CanonicalRead
+mod FileKept
+mod FileOrFault
+mod FilesRead
+mod FirstFaults
+mod InstanceLemmas
+mod Kept
+mod KeptLemmas
+mod KeptSteps
+mod KeptWords
+mod ListWords
+mod Live
+mod NumberLemmas
+mod NumberTexts
+mod ParamLayers
+mod ParamsRead
+mod Runs
+mod SpacedWords
+mod SpellingLemmas
+mod StepLemmas
+mod Texts
+mod TwoLimits
+mod ValueLemmas
+mod ValueWords
+mod WordFaults
+mod WordsRead

@@ -1,5 +1,6 @@
 -- The words of lists of parameters that are open.
-use Rattle.std.proofs.Common.{◌≡◌, ℕ, ◌+◌, ◌≤◌, Bool, true, false, ◌&&◌, IsTrue, ◌⊎◌, inl, inr, List, [], ◌∷◌, ◌++◌, length, flat_map, Some, None, refl, sym, ap, subst, ◌∙◌, append_assoc, append-nil, arith}
+use Rattle.std.proofs.Common.{◌≡◌, ℕ, ◌+◌, ◌≤◌, true, IsTrue, ◌⊎◌, inl, inr, List, [], ◌∷◌, ◌++◌, length, flat_map, Some, None, refl, sym, ap, subst, ◌∙◌, append_assoc, append-nil, arith}
+use Rattle.std.proofs.lemmas.Bool.{and_from}
 use Rattle.std.specs.List.{list_all, AllByRecursion}
 use Rattle.std.proofs.lemmas.Grind.{flat_map-append}
 use Rattle.sn_lex.specs.declared.token.Token.TheVariants.{LeftParen, RightParen, Comma}
@@ -10,7 +11,7 @@ use Rattle.sn_p21.specs.declared.grammar.list.Opening.TheVariants.{Plain, Typed}
 use Rattle.sn_p21.specs.declared.grammar.list.OpenList.{OpenList}
 use Rattle.sn_p21.specs.Word.{Word, mark, keyword}
 use Rattle.sn_p21.specs.Grammar.{param_words, list_words, rest_of_list, nesting, is_whole}
-use Rattle.sn_p21.specs.Machine.{parted, parted_behind, param_of_list, is_typed}
+use Rattle.sn_p21.specs.Reader.{parted, parted_behind, param_of_list, is_typed}
 use Rattle.sn_p21.proofs.ParamLayers.{words_list, words_typed, nesting_list, nesting_typed, whole_list, whole_typed}
 use Rattle.sn_p21.proofs.ParamsRead.{body_words, list_words_is, words_of, deepest}
 
@@ -59,10 +60,6 @@ closed_words opening qs p =
     ∙ ap (λ ws. lead opening ++ ws) (append_assoc (comma_words qs) (param_words p) (mark RightParen ∷ []))
     ∙ lead_closed opening qs p
 
-and_true : (a b : Bool) → a ≡ true → b ≡ true → (a && b) ≡ true
-and_true true b h k = k
-and_true false b h k = h
-
 -- the first of the lists is that of an entity
 abbrev pub HeadPlain : List OpenList → Type 0
 HeadPlain [] = Unit {0}
@@ -103,7 +100,7 @@ module _ (limit : ℕ) where
 
   pub all_whole : (depth : ℕ) (ps : List Param) → AllFitAt depth ps → IsTrue (list_all is_whole ps)
   all_whole depth [] h = refl
-  all_whole depth (p ∷ ps) h = and_true (is_whole p) (list_all is_whole ps) h.0.0 (all_whole depth ps h.1)
+  all_whole depth (p ∷ ps) h = and_from (is_whole p) (list_all is_whole ps) h.0.0 (all_whole depth ps h.1)
 
   pub all_within : (depth : ℕ) (ps : List Param) → depth ≤ limit → AllFitAt depth ps → deepest ps + depth ≤ limit
   all_within depth [] k h = omega arith

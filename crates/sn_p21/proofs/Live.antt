@@ -16,7 +16,7 @@ use Rattle.sn_p21.specs.declared.grammar.list.OpenList.{OpenList}
 use Rattle.sn_p21.specs.declared.grammar.reader.Reader.{Reader}
 use Rattle.sn_p21.specs.Numbers.{has_number}
 use Rattle.sn_p21.specs.Word.{Word, IsSpelled, mark, keyword}
-use Rattle.sn_p21.specs.Machine.{Step, Refusal, unexpected, twice, deep, step, takes_entity, takes_instance, takes_param, list_param, closes_in, parted, empty_list, names_header_entity, ends_header}
+use Rattle.sn_p21.specs.Reader.{Step, Refusal, unexpected, twice, deep, step, takes_entity, takes_instance, takes_param, list_param, closes_in, parted, empty_list, names_header_entity, ends_header}
 use Rattle.sn_p21.proofs.ListWords.{parted_cases}
 use Rattle.sn_p21.proofs.Kept.{Before, IsBefore, FixedKept, KeptAt, Kept, IsOutside}
 use Rattle.sn_p21.proofs.Runs.{and_then, run}

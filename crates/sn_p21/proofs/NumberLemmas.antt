@@ -1,6 +1,6 @@
 -- The test of a number among instances.
 use Rattle.std.proofs.Common.{◌≡◌, ℕ, Bool, true, false, ◌||◌, eqb, ◌⊎◌, inl, inr, ⊎_elim, subst, List, [], ◌∷◌, ◌++◌, refl, sym, ap, ◌∙◌}
-use Rattle.std.proofs.lemmas.Bool.{eqb-true, eq-eqb}
+use Rattle.std.proofs.lemmas.Bool.{eqb-true, eq-eqb, or_right, false_from_ne_true}
 use Rattle.sn_p21.specs.declared.file.Instance.{Instance}
 use Rattle.sn_p21.specs.Numbers.{HasNumber, has_number, NumbersDiffer}
 
@@ -12,21 +12,13 @@ pub has_number-true : (n : ℕ) (is : List Instance) → has_number n is ≡ tru
 has_number-true n [] h = let e : false ≡ true = h in cc
 has_number-true n (i ∷ is) h = or_cases (eqb n i.number) (has_number n is) (λ e. sym (eqb-true n i.number e)) (has_number-true n is) h
 
-or_right : (a b : Bool) → b ≡ true → (a || b) ≡ true
-or_right true b h = refl
-or_right false b h = h
-
 pub has_number-from : (n : ℕ) (is : List Instance) → HasNumber n is → has_number n is ≡ true
 has_number-from n [] h = absurd h
 has_number-from n (i ∷ is) (inl e) = ap (λ b. b || has_number n is) (eq-eqb n i.number (sym e))
 has_number-from n (i ∷ is) (inr h) = or_right (eqb n i.number) (has_number n is) (has_number-from n is h)
 
-false_from : (b : Bool) → (b ≡ true → ⊥) → b ≡ false
-false_from true h = absurd (h refl)
-false_from false h = refl
-
 pub has_number-false : (n : ℕ) (is : List Instance) → (HasNumber n is → ⊥) → has_number n is ≡ false
-has_number-false n is h = false_from (has_number n is) (λ e. h (has_number-true n is e))
+has_number-false n is h = false_from_ne_true (has_number n is) (λ e. h (has_number-true n is e))
 
 pub not_has_number : (n : ℕ) (is : List Instance) → has_number n is ≡ false → HasNumber n is → ⊥
 not_has_number n is h k = let e : true ≡ false = sym (has_number-from n is k) ∙ h in cc

@@ -18,7 +18,7 @@ use Rattle.sn_p21.specs.declared.grammar.place.Owner.{Owner}
 use Rattle.sn_p21.specs.declared.grammar.place.Owner.TheVariants as owner
 use Rattle.sn_p21.specs.Word.{Word, mark}
 use Rattle.sn_p21.specs.Grammar.{param_words, list_words, rest_of_list, nesting, greatest, is_whole}
-use Rattle.sn_p21.specs.Machine.{step, closes, closes_in, parted, empty_list, is_typed, param_of_list, opens, unexpected, deep, takes_entity}
+use Rattle.sn_p21.specs.Reader.{step, closes, closes_in, parted, empty_list, is_typed, param_of_list, opens, unexpected, deep, takes_entity}
 use Rattle.sn_p21.proofs.StepLemmas.{parted_push}
 use denote.Hole.Carrier.{roll}
 use Rattle.sn_p21.proofs.ParamLayers.{words_int, words_real, words_text, words_enum, words_binary, words_ref, words_list, words_typed, words_absent, words_derived, nesting_list, nesting_typed, whole_list, whole_typed, typed_not_empty, typed_not_more}

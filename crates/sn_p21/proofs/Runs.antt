@@ -2,7 +2,7 @@
 use Rattle.std.proofs.Common.{◌≡◌, ℕ, List, [], ◌∷◌, ◌++◌, Ok, Err, refl, sym, ap, ◌∙◌}
 use Rattle.sn_p21.specs.Word.{Word}
 use Rattle.sn_p21.specs.declared.grammar.reader.Reader.{Reader}
-use Rattle.sn_p21.specs.Machine.{Step, step}
+use Rattle.sn_p21.specs.Reader.{Step, step}
 
 abbrev pub and_then : Step → (Reader → Step) → Step
 and_then (Ok s) f = f s

@@ -1,5 +1,6 @@
 -- The canonical text of a word is one of its spellings.
-use Rattle.std.proofs.Common.{◌≡◌, ◌≢◌, ℕ, ◌^◌, ◌<◌, Bool, true, false, ◌&&◌, List, [], ◌∷◌, refl, subst, arith}
+use Rattle.std.proofs.Common.{◌≡◌, ◌≢◌, ℕ, ◌^◌, ◌<◌, true, List, [], ◌∷◌, refl, subst, arith}
+use Rattle.std.proofs.lemmas.Bool.{and_from}
 use Rattle.std.specs.Prelude.{decimal, IsTrue}
 use Rattle.std.specs.List.{list_all}
 use Rattle.std.specs.Char.{is_ascii_digit}
@@ -14,13 +15,9 @@ use Rattle.sn_lex.specs.declared.token.Token.TheVariants.{FileStart, FileEnd, Ke
 use Rattle.sn_p21.specs.Canonical.{token_text}
 use Rattle.sn_p21.specs.Word.{Carries}
 
-and_true : (a b : Bool) → a ≡ true → b ≡ true → (a && b) ≡ true
-and_true true b h k = k
-and_true false b h k = h
-
 all_digits : (ds : List ℕ) → AllDigits 10 ds → IsTrue (list_all is_ascii_digit ds)
 all_digits [] h = refl
-all_digits (d ∷ ds) h = let r = digit_from_value d h.0 in let e : is_ascii_digit d ≡ true = grind (arith, nat_tests) in and_true (is_ascii_digit d) (list_all is_ascii_digit ds) e (all_digits ds h.1)
+all_digits (d ∷ ds) h = let r = digit_from_value d h.0 in let e : is_ascii_digit d ≡ true = grind (arith, nat_tests) in and_from (is_ascii_digit d) (list_all is_ascii_digit ds) e (all_digits ds h.1)
 
 pub are_digits : (n : ℕ) → n < 2 ^ 32 → AreDigits (decimal n)
 are_digits n h = let d = decimal_is_IsNumeral n (omega arith) in (d.0.0, all_digits (decimal n) d.0.1)

@@ -3,7 +3,7 @@ use Rattle.std.proofs.Common.{◌≡◌, ℕ, List, [], ◌∷◌, ◌++◌, Som
 use Rattle.sn_p21.specs.declared.fault.P21Fault.{P21Fault}
 use Rattle.sn_p21.specs.declared.fault.P21Fault.TheVariants as fault
 use Rattle.sn_p21.specs.declared.grammar.reader.Reader.{Reader}
-use Rattle.sn_p21.specs.Machine.{parted, parted_behind, Steps, Gives}
+use Rattle.sn_p21.specs.Reader.{parted, parted_behind, Steps, Gives}
 
 pub parted_push : {A : Type 0} → (xs : List A) (y : A) → parted (xs ++ y ∷ []) ≡ Some (xs, y)
 parted_push [] y = refl

@@ -17,10 +17,6 @@ pending (suc i) ps = rest_of_list (words_of ps)
 pub texts_append : (xs ys : List Word) → words_text (xs ++ ys) ≡ words_text xs ++ words_text ys
 texts_append xs ys = flat_map-append word_text xs ys
 
-comma_text : ℕ → List ℕ
-comma_text zero = []
-comma_text (suc i) = 44 ∷ []
-
 pub file_text : (h rows : List Word) → words_text (opening_words ++ h ++ middle_words ++ rows ++ closing_words) ≡ (((words_text opening_words ++ words_text h) ++ words_text middle_words) ++ words_text rows) ++ words_text closing_words
 file_text h rows =
     texts_append (opening_words ++ h ++ middle_words ++ rows) closing_words

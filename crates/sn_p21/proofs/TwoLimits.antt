@@ -9,7 +9,7 @@ use Rattle.sn_p21.specs.declared.grammar.list.Opening.{Opening}
 use Rattle.sn_p21.specs.declared.grammar.list.Opening.TheVariants.{Plain, Typed}
 use Rattle.sn_p21.specs.declared.grammar.reader.Reader.{Reader}
 use Rattle.sn_p21.specs.Word.{Word}
-use Rattle.sn_p21.specs.Machine.{Step, deep, opens, step, step_at, step_param, step_first_param, step_typed_list}
+use Rattle.sn_p21.specs.Reader.{Step, deep, opens, step, step_at, step_param, step_first_param, step_typed_list}
 use Rattle.sn_p21.proofs.KeptLemmas.{no_reader}
 use Rattle.sn_p21.proofs.Runs.{and_then, run, first_gave}
 

@@ -1,6 +1,6 @@
 -- The values of strings.
 use Rattle.std.proofs.Common.{◌≡◌, ℕ, zero, suc, ◌+◌, ◌<◌, Bool, true, false, cond, eqb, List, [], ◌∷◌, length, get_or, drop, refl, ap, ◌∙◌, arith}
-use Rattle.sn_p21.specs.Machine.{halved, width}
+use Rattle.sn_p21.specs.Reader.{halved, width}
 
 first_step : (b e : Bool) (c d : ℕ) (cs : List ℕ) → cond b (cond e (c ∷ halved cs) (c ∷ halved (d ∷ cs))) (c ∷ halved (d ∷ cs)) ≡ c ∷ halved (drop (cond b (cond e 2 1) 1) (c ∷ d ∷ cs))
 first_step true true c d cs = refl

@@ -5,7 +5,7 @@ use Rattle.sn_lex.specs.Form.{IsTextOf, doubled}
 use Rattle.sn_lex.specs.declared.token.Token.{Token}
 use Rattle.sn_lex.specs.declared.token.Token.TheVariants.{FileStart, FileEnd, Keyword, Number, Integer, Real, Text, Enumeration, Binary, LeftParen, RightParen, Comma, Semicolon, Equals, Dollar, Star, End}
 use Rattle.sn_p21.specs.Word.{Carries}
-use Rattle.sn_p21.specs.Machine.{inner, halved, value_of}
+use Rattle.sn_p21.specs.Reader.{inner, halved, value_of}
 
 not_apostrophe : (c : ℕ) → eqb c 39 ≡ false → (cs : List ℕ) → halved (c ∷ doubled cs) ≡ c ∷ halved (doubled cs)
 not_apostrophe c e [] = refl

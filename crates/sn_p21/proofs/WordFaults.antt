@@ -22,7 +22,7 @@ use Rattle.sn_p21.specs.FirstFault.{IsTaken, IsDeeper, IsWordFault}
 use Rattle.sn_p21.specs.Grammar.{closing_words}
 use Rattle.sn_p21.specs.Numbers.{has_number}
 use Rattle.sn_p21.specs.Word.{Word, Carries, IsSpelled, IsSpelling, mark}
-use Rattle.sn_p21.specs.Machine.{Step, Refusal, unexpected, twice, deep, Refuses, accepts, place_after, is_keyword_named, names_header_entity, ends_header, empty_list, first_place, is_typed, parted, step, step_at, step_param, opens, takes_entity, closes, closes_in, start}
+use Rattle.sn_p21.specs.Reader.{Step, Refusal, unexpected, twice, deep, Refuses, accepts, place_after, is_keyword_named, names_header_entity, ends_header, empty_list, first_place, is_typed, parted, step, step_at, step_param, opens, takes_entity, closes, closes_in, start}
 use Rattle.sn_p21.proofs.FilesRead.{file_is_read}
 use Rattle.sn_p21.proofs.FileKept.{content, join_all, start_kept, whole_is_file}
 use Rattle.sn_p21.proofs.Kept.{KeptAt}

@@ -1,5 +1,6 @@
 -- The words of the bytes, and what the reader does with them.
 use Rattle.std.proofs.Common.{◌≡◌, ℕ, ◌+◌, ◌≤◌, true, false, nat_lt, ⊎_elim, List, [], ◌∷◌, ◌++◌, length, drop, slice_range, Ok, refl, sym, ap, subst, ◌∙◌}
+use Rattle.std.proofs.lemmas.Bool.{and_parts}
 use Rattle.std.specs.List.{AllByRecursion}
 use Rattle.sn_lex.specs.Form.{AreSeparators}
 use Rattle.sn_lex.specs.Law.{OneNext, TokensHaveBytes}
@@ -14,9 +15,9 @@ use Rattle.sn_p21.specs.declared.grammar.place.Fixed.TheVariants as fixed
 use Rattle.sn_p21.specs.declared.grammar.reader.Reader.{Reader}
 use Rattle.sn_p21.specs.declared.limits.TheConstants.{MAX_OPEN_LISTS}
 use Rattle.sn_p21.specs.Word.{Word, IsSpelled, IsNextWord, AreWordsBetween}
-use Rattle.sn_p21.specs.Machine.{unexpected, value_of, step, step_at, accepts, names_header_entity, ends_header, start}
+use Rattle.sn_p21.specs.Reader.{unexpected, value_of, step, step_at, accepts, names_header_entity, ends_header, start}
 use Rattle.sn_p21.proofs.KeptLemmas.{Gave, no_reader, went, either, word}
-use Rattle.sn_p21.proofs.KeptWords.{and_parts, named_keyword}
+use Rattle.sn_p21.proofs.KeptWords.{named_keyword}
 use Rattle.sn_p21.proofs.Runs.{and_then, run, joined_ran}
 use Rattle.sn_p21.proofs.ValueWords.{carried, carries}
 

@@ -1,4 +1,4 @@
--- The canonical text of a file (this project's own).
+-- MEANING (this project's own): the canonical text of a file.
 use Rattle.std.specs.Prelude.{ℕ, List, [], ◌∷◌, ◌++◌, flat_map, codes, decimal}
 use Rattle.sn_lex.specs.Form.{doubled}
 use Rattle.sn_lex.specs.declared.token.Token.{Token}

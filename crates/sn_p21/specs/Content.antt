@@ -1,4 +1,4 @@
--- What a file holds.
+-- MEANING (this project's own): what a file holds.
 use Rattle.std.specs.Prelude.{List}
 use Rattle.sn_p21.specs.declared.file.Entity.{Entity}
 use Rattle.sn_p21.specs.declared.file.Instance.{Instance}

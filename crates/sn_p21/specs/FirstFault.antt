@@ -1,4 +1,4 @@
--- The first fault of bytes that are no part text.
+-- MEANING (this project's own): the first fault of bytes that are no part text.
 use Rattle.std.specs.Prelude.{◌≡◌, ◌≢◌, ℕ, ◌+◌, List, [], ◌∷◌, ◌++◌, length, drop}
 use Rattle.sn_lex.specs.Form.{AreSeparators}
 use Rattle.sn_lex.specs.Reading.{IsNextFault}
@@ -56,8 +56,9 @@ pub record IsFirstFault (bytes : List ℕ) (why : P21Fault) : Type 0 where
   pub begin : Begin ws
   pub stops : Stops bytes to ws why
 
--- bytes have one first fault at most, and a part text has none
+-- bytes have one first fault at most, and none where they are a part text; they cannot be no part text and have none
 abbrev pub OneFault : Type 0
 OneFault =
     ((bytes : List ℕ) (why other : P21Fault) → IsFirstFault bytes why → IsFirstFault bytes other → why ≡ other)
     × ((bytes : List ℕ) (f : Content) (why : P21Fault) → IsPartText bytes f → ¬ IsFirstFault bytes why)
+    × ((bytes : List ℕ) → ((f : Content) → ¬ IsPartText bytes f) → ((why : P21Fault) → ¬ IsFirstFault bytes why) → ⊥)

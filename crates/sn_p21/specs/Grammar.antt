@@ -1,5 +1,5 @@
--- The grammar of a part text: the words that a header and instances are written in (after ISO 10303-21, annex on the
--- clear text's grammar, in this project's profile).
+-- MEANING (ISO 10303-21, WSN of the exchange structure, in this project's profile): the words that a header and instances are
+-- written in.
 use Rattle.std.specs.Prelude.{◌≡◌, ◌≢◌, ℕ, ◌+◌, ◌≤◌, ◌<◌, ◌⊎◌, max, Bool, true, false, List, [], ◌∷◌, ◌++◌, map, length, take, flat_map, codes, IsTrue}
 use Rattle.std.specs.List.{list_all, AllByRecursion}
 use Rattle.sn_lex.specs.declared.token.Token.TheVariants.{FileStart, FileEnd, Number, Integer, Real, Text, Enumeration, Binary, LeftParen, RightParen, Comma, Semicolon, Equals, Dollar, Star}

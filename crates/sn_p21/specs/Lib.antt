@@ -2,8 +2,9 @@ pub mod Canonical
 pub mod Content
 pub mod FirstFault
 pub mod Grammar
-pub mod Machine
+pub mod NumberText
 pub mod Numbers
 pub mod PartText
+pub mod Reader
 pub mod Word
 pub mod Written

@@ -1,4 +1,4 @@
--- The numbers of instances.
+-- MEANING (this project's own): the numbers of instances.
 use Rattle.std.specs.Prelude.{◌≡◌, ℕ, Bool, false, ◌==◌, ◌||◌, ◌⊎◌, cond, List, [], ◌∷◌, map, Option, Some, None}
 use Rattle.std.specs.List.{AllByRecursion}
 use Rattle.sn_p21.specs.declared.file.Instance.{Instance}

@@ -1,4 +1,4 @@
--- Part texts.
+-- MEANING (ISO 10303-21, exchange structure, in this project's profile): part texts.
 use Rattle.std.specs.Prelude.{◌≡◌, ℕ, List}
 use Rattle.sn_p21.specs.Canonical.{canonical_text}
 use Rattle.sn_p21.specs.Content.{Content}

@@ -1,4 +1,4 @@
--- The words of a part text: its tokens with what they carry (ISO 10303-21 in this project's profile).
+-- MEANING (ISO 10303-21, tokens, in this project's profile): the words of a part text, its tokens with what they carry.
 use Rattle.std.specs.Prelude.{◌≡◌, ℕ, ◌+◌, List, [], ◌∷◌, ◌++◌, slice_range, drop}
 use Rattle.sn_lex.specs.Form.{AreSeparators, IsTextOf, doubled}
 use Rattle.sn_lex.specs.Reading.{IsNextToken}

@@ -1,4 +1,4 @@
--- The words of instances as they are written.
+-- MEANING (this project's own): the words of instances as they are written.
 use Rattle.std.specs.Prelude.{List, flat_map}
 use Rattle.sn_p21.specs.declared.file.Instance.{Instance}
 use Rattle.sn_p21.specs.Grammar.{instance_words, parts_words}

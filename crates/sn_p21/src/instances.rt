@@ -1,6 +1,6 @@
 //! The instances of a file, in the order in which they stand there.
 
-ghost use Rattle.std.specs.Prelude.{◌≡◌, ◌++◌, ◌∷◌, [], ℕ, length, Some, None, Option, slice_get, is_some, IsTrue, ◌↔◌, IfOk, OnErr, IsSome, ◌<◌, not, true, false};
+ghost use Rattle.std.specs.Prelude.{◌≡◌, ◌++◌, ◌∷◌, [], length, Some, None, Option, slice_get, is_some, ◌↔◌, IfOk, OnErr, IsSome, ◌<◌, not, true, false};
 ghost use Rattle.std.specs.Option.{option_copied};
 ghost use Rattle.sn_p21.specs.Numbers.{has_number, instance_of};
 

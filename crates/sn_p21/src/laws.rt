@@ -1,5 +1,6 @@
 //! Laws of the definitions, for proofs above. The functions do nothing.
 
+ghost use Rattle.sn_p21.specs.NumberText.{NumbersHaveText};
 ghost use Rattle.sn_p21.specs.PartText.{ReadsCanonical};
 
 use sn_lex::reads_written;
@@ -10,3 +11,8 @@ pub fn reads_canonical()
 {
     reads_written();
 }
+
+/// Each integer and each real of a part text is the text of a number.
+pub fn numbers_have_text()
+    ensures { NumbersHaveText }
+{}

@@ -13,7 +13,7 @@ mod write;
 pub use fault::P21Fault;
 pub use file::{Bytes, Entities, Entity, File, Instance, Param, Params};
 pub use instances::Instances;
-pub use laws::reads_canonical;
+pub use laws::{numbers_have_text, reads_canonical};
 pub use limits::MAX_OPEN_LISTS;
 pub use read::{one_fault, one_file, read_file};
 pub use write::{write_file, write_instances};

@@ -4,7 +4,7 @@ ghost use Rattle.std.specs.Prelude.{◌≡◌, ◌≢◌, ◌↔◌, ◌⊎◌, 
 ghost use Rattle.sn_p21.specs.Content.{Content};
 ghost use Rattle.sn_p21.specs.FirstFault.{IsFirstFault, OneFault};
 ghost use Rattle.sn_p21.specs.Grammar.{IsFile};
-ghost use Rattle.sn_p21.specs.Machine.{is_done};
+ghost use Rattle.sn_p21.specs.Reader.{is_done};
 ghost use Rattle.sn_p21.specs.PartText.{IsPartText, OneFile};
 
 use crate::fault::P21Fault;
@@ -68,7 +68,7 @@ pub fn one_file()
     tokens_have_bytes();
 }
 
-/// Bytes have one first fault at most, and a part text has none.
+/// Bytes are a part text or have one first fault, and not both.
 pub fn one_fault()
     ensures { OneFault }
 {

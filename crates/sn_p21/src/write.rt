@@ -1,6 +1,6 @@
 //! Writing the canonical text of a file.
 
-ghost use Rattle.std.specs.Prelude.{◌≡◌, ◌++◌, ◌∷◌, [], IfOk, OnOk, decimal, map, cond, nat_eq, flat_map};
+ghost use Rattle.std.specs.Prelude.{◌≡◌, ◌++◌, ◌∷◌, [], IfOk, OnOk, decimal, map, flat_map};
 ghost use Rattle.sn_lex.specs.Form.{doubled};
 ghost use Rattle.sn_p21.specs.Canonical.{canonical_text, words_text};
 ghost use Rattle.sn_p21.specs.Grammar.{param_words, list_words, entity_words, instance_words, parts_words, header_words};

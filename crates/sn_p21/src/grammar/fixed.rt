@@ -1,7 +1,7 @@
 //! The words that the grammar fixes.
 
 ghost use Rattle.std.specs.Prelude.{◌≡◌};
-ghost use Rattle.sn_p21.specs.Machine.{accepts, place_after, is_keyword_named, names_header_entity, ends_header, value_of};
+ghost use Rattle.sn_p21.specs.Reader.{accepts, place_after, is_keyword_named, names_header_entity, ends_header, value_of};
 
 use crate::grammar::place::{Fixed, Place};
 use sn_lex::Token;

@@ -1,7 +1,7 @@
 //! Lists of parameters that are open.
 
-ghost use Rattle.std.specs.Prelude.{◌≡◌, []};
-ghost use Rattle.sn_p21.specs.Machine.{empty_list, list_param, first_place, is_typed};
+ghost use Rattle.std.specs.Prelude.{◌≡◌};
+ghost use Rattle.sn_p21.specs.Reader.{empty_list, list_param, first_place, is_typed};
 
 use crate::file::{Bytes, Param, Params};
 use crate::grammar::place::Place;

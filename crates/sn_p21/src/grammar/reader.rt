@@ -1,8 +1,8 @@
 //! The reader of a part text: what was read, and what may stand next.
 
 ghost use Rattle.std.specs.Prelude.{◌≡◌, ◌↔◌, [], IsTrue};
-ghost use Rattle.sn_p21.specs.Machine as spec;
-ghost use Rattle.sn_p21.specs.Machine.{Steps, Gives, value_of};
+ghost use Rattle.sn_p21.specs.Reader as spec;
+ghost use Rattle.sn_p21.specs.Reader.{Steps, Gives, value_of};
 ghost use Rattle.sn_p21.specs.declared.limits.TheConstants.{MAX_OPEN_LISTS};
 
 use crate::fault::P21Fault;

@@ -1,7 +1,7 @@
 //! The parameters of one token.
 
-ghost use Rattle.std.specs.Prelude.{◌≡◌, ◌≤◌, ◌<◌, ◌+◌, ◌++◌, length, take, drop, IfOk, slice_range, [], ◌∷◌};
-ghost use Rattle.sn_p21.specs.Machine.{value_param, value_of, inner, halved, width};
+ghost use Rattle.std.specs.Prelude.{◌≡◌, ◌≤◌, ◌<◌, ◌+◌, length, drop, IfOk};
+ghost use Rattle.sn_p21.specs.Reader.{value_param, value_of, inner, halved, width};
 
 use crate::file::{Bytes, Param};
 use sn_lex::Token;

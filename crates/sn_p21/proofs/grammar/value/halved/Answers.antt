@@ -1,5 +1,5 @@
 use Rattle.std.proofs.Common.{◌++◌, ◌∷◌, [], ◌+◌, ℕ, List, drop, get_or, sym, ap, ◌∙◌, append_assoc, arith}
-use Rattle.sn_p21.specs.Machine.{halved}
+use Rattle.sn_p21.specs.Reader.{halved}
 use Rattle.sn_p21.proofs.ValueLemmas.{halved_at}
 use Rattle.sn_p21.proofs.grammar.value.halved.Goals as goal
 

@@ -1,5 +1,5 @@
 use Rattle.std.proofs.Common.{◌≡◌, ◌++◌, ◌-◌, drop, length}
-use Rattle.sn_p21.specs.Machine.{halved}
+use Rattle.sn_p21.specs.Reader.{halved}
 use Rattle.sn_p21.proofs.grammar.value.halved.Given as goal
 
 -- what is out, and the value of what is left, is the value of the whole

@@ -1,7 +1,7 @@
 use Rattle.std.proofs.Common.{◌∙◌, sym, ap, subst, Option, List, Ok}
 use Rattle.sn_p21.specs.declared.file.Param.{Param}
 use Rattle.sn_p21.specs.declared.grammar.list.OpenList.{OpenList}
-use Rattle.sn_p21.specs.Machine.{parted, closes_in, takes_param, list_param, Steps}
+use Rattle.sn_p21.specs.Reader.{parted, closes_in, takes_param, list_param, Steps}
 use Rattle.sn_p21.proofs.StepLemmas.{parted_push, steps_from_gives}
 use Rattle.sn_p21.proofs.grammar.reader.Reader.close.Goals as goal
 

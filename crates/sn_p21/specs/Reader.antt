@@ -1,4 +1,5 @@
--- What the reader of a part text does at a token: it keeps what was read so far, and which words may stand next.
+-- Private (only the functions of this crate cite these words): what the reader of a part text does at a token. It keeps what
+-- was read so far, and which words may stand next.
 use Rattle.std.specs.Prelude.{◌≡◌, ℕ, ◌+◌, ◌-◌, Bool, true, false, ◌&&◌, ◌==◌, nat_lt, cond, List, [], ◌∷◌, ◌++◌, length, slice_range, codes, Option, Some, None, Result, Ok, Err}
 use Rattle.std.specs.Str.{bytes_eq}
 use Rattle.sn_lex.specs.declared.token.Token.{Token}
