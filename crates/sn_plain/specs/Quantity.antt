@@ -2,9 +2,8 @@
 -- As in ISO 14649, lengths are written in millimetres, feeds in metres per second and speeds in revolutions per second.
 use Rattle.std.specs.Prelude.{◌≡◌, ℕ, ℤ, pos, ◌≤ℤ◌, unsigned_abs, List}
 use Rattle.sn_geom.specs.Length.{IsLength}
-use Rattle.sn_geom.specs.declared.limits.TheConstants.{PER_MM, REACH}
+use Rattle.sn_geom.specs.declared.limits.TheConstants.{LEAST_DIAMETER, MOST_DIAMETER, MOST_RATE, FEED_SCALE, SPEED_SCALE, PER_MM, REACH}
 use Rattle.sn_plain.specs.NumberText.{IsNumberTimes}
-use Rattle.sn_plain.specs.declared.limits.TheConstants.{LEAST_DIAMETER, GREATEST_DIAMETER, GREATEST_RATE, METRE_PER_SECOND, TURN_PER_SECOND}
 use Rattle.sn_plain.specs.declared.quantity.Quantity.{Quantity}
 use Rattle.sn_plain.specs.declared.quantity.Quantity.TheVariants.{Coordinate, Length, Size, Diameter, Feed, Speed}
 
@@ -18,14 +17,14 @@ abbrev pub IsWithin : Quantity → ℤ → Type 0
 IsWithin Coordinate z = IsLength z
 IsWithin Length z = IsBetween 0 REACH z
 IsWithin Size z = IsBetween 1 REACH z
-IsWithin Diameter z = IsBetween LEAST_DIAMETER GREATEST_DIAMETER z
-IsWithin Feed z = IsBetween 1 GREATEST_RATE z
-IsWithin Speed z = IsBetween 1 GREATEST_RATE z
+IsWithin Diameter z = IsBetween LEAST_DIAMETER MOST_DIAMETER z
+IsWithin Feed z = IsBetween 1 MOST_RATE z
+IsWithin Speed z = IsBetween 1 MOST_RATE z
 
 -- how many units of the value the unit of the text has
 abbrev pub factor : Quantity → ℕ
-factor Feed = METRE_PER_SECOND
-factor Speed = TURN_PER_SECOND
+factor Feed = FEED_SCALE
+factor Speed = SPEED_SCALE
 factor _ = PER_MM
 
 -- the sign of a speed is dropped

@@ -6,7 +6,6 @@ ghost use Rattle.std.specs.Prelude.{◌≡◌, ℕ, ℤ, List, IfSome, IsSomeAnd
 ghost use Rattle.sn_plain.specs.NumberText.{IsDelimited};
 ghost use Rattle.sn_plain.specs.Plain.{parameter, BeginsWith, PlainText, IsPlain, OnePlain};
 
-mod limits;
 mod number;
 mod part;
 mod quantity;

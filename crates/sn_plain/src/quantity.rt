@@ -2,11 +2,8 @@
 ghost use Rattle.std.specs.Prelude.{◌≡◌, ◌↔◌, ◌≤◌, ℤ, IsTrue, IfSome, unsigned_abs};
 ghost use Rattle.sn_plain.specs.Quantity.{IsBetween, IsWithin, factor, value_of, Measures};
 
-use super::limits::{
-    GREATEST_DIAMETER, GREATEST_RATE, LEAST_DIAMETER, METRE_PER_SECOND, TURN_PER_SECOND,
-};
 use super::number::{WIDEST, rounded};
-use sn_geom::{PER_MM, REACH};
+use sn_geom::{FEED_SCALE, LEAST_DIAMETER, MOST_DIAMETER, MOST_RATE, PER_MM, REACH, SPEED_SCALE};
 
 /// What a number of the text measures, which fixes its unit and its limits.
 #[derive(Clone, Copy)]
@@ -40,8 +37,8 @@ impl Quantity {
         ensures small { result ≤ 60000 }
     {
         match self {
-            Quantity::Feed => METRE_PER_SECOND,
-            Quantity::Speed => TURN_PER_SECOND,
+            Quantity::Feed => FEED_SCALE,
+            Quantity::Speed => SPEED_SCALE,
             Quantity::Coordinate | Quantity::Length | Quantity::Size | Quantity::Diameter => PER_MM,
         }
     }
@@ -65,8 +62,8 @@ impl Quantity {
             Quantity::Coordinate => value.unsigned_abs() <= REACH,
             Quantity::Length => is_between(0, REACH, value),
             Quantity::Size => is_between(1, REACH, value),
-            Quantity::Diameter => is_between(LEAST_DIAMETER, GREATEST_DIAMETER, value),
-            Quantity::Feed | Quantity::Speed => is_between(1, GREATEST_RATE, value),
+            Quantity::Diameter => is_between(LEAST_DIAMETER, MOST_DIAMETER, value),
+            Quantity::Feed | Quantity::Speed => is_between(1, MOST_RATE, value),
         }
     }
 
