@@ -67,7 +67,7 @@ given_has e (r ∷ rs) vs q all (inr h) = given_has e rs all.2 q all.5 h
 pub given_contains : (e : Entity) (rs : List Read) (vs : List Value) (q : Read) → AreGiven e rs vs → Contains rs q → Given e q
 given_contains e rs vs q all c = given_has e rs vs q all (has rs q c)
 
-first_faulty : (e : Entity) (most : ℕ) (reads before : List Read) (r : Read) (behind : List Read) (p : Param) (vs : List Value) → reads ≡ before ++ r ∷ behind → IsRising 0 most reads → AreGiven e before vs → IsRead e r p → ((v : Value) → ¬ ReadGives r p v) → IsFirstFaulty e reads r p
+pub first_faulty : (e : Entity) (most : ℕ) (reads before : List Read) (r : Read) (behind : List Read) (p : Param) (vs : List Value) → reads ≡ before ++ r ∷ behind → IsRising 0 most reads → AreGiven e before vs → IsRead e r p → ((v : Value) → ¬ ReadGives r p v) → IsFirstFaulty e reads r p
 first_faulty e most reads before r behind p vs parts rise given read none = record {
   among = subst (λ x. Contains x r) (sym parts) (contains_split before r behind);
   read = read;

@@ -1,12 +1,15 @@
-pub mod FaultLemmas
-pub mod GivenForms
-pub mod GivenOne
-pub mod KindLemmas
-pub mod MeasureLemmas
-pub mod OneShowingLemmas
-pub mod ParamLemmas
-pub mod ReadLemmas
-pub mod RefusalLemmas
-pub mod RowNames
-pub mod RowsLeft
-pub mod RowsRise
+mod FaultLemmas
+mod GivenForms
+mod GivenOne
+mod GroupLemmas
+mod KindLemmas
+mod MeasureLemmas
+mod OneShowingLemmas
+mod ParamLemmas
+mod ReadLemmas
+mod RefusalLemmas
+mod RowNames
+mod RowsLeft
+mod RowsRise
+mod ShapeLemmas
+mod ShownOrFaulty

@@ -15,6 +15,7 @@ use Rattle.sn_entity.proofs.FaultLemmas.{first_one, given_contains}
 use Rattle.sn_entity.proofs.GivenOne.{given_one}
 use Rattle.sn_entity.proofs.RowNames.{id-from_name}
 use Rattle.sn_entity.proofs.RowsRise.{row_rises}
+use Rattle.sn_entity.proofs.ShownOrFaulty.{shown_or_faulty}
 
 entity_one : (i : Instance) (e d : Entity) (a b : RowId) → HasRow i e a → HasRow i d b → e ≡ d
 entity_one i e d a b x y = let s = sym x.simple ∙ y.simple in cc
@@ -85,7 +86,7 @@ not_both i f why s a =
     no_fault i.number s.entity f.row f why (record { row = refl; enough = s.enough; values = s.values }) (subst (λ x. IsFault i.number x f.row why) e (subst (λ x. IsFault i.number a.0 x why) r a.3))
 
 pub one_showing : HasOneNumber → ScalesToOne → OneShowing
-one_showing numbers roundings = (shows_one numbers roundings, fault_one, not_both)
+one_showing numbers roundings = (shows_one numbers roundings, fault_one, not_both, shown_or_faulty)
 
 -- what is shown is found
 pub only_shown : OneShowing → (i : Instance) (r : Result Fields EntFault) → IfOk r (Shows i) → IfErr r (λ e. e ≢ fault.Memory → IsEntityFault i e) → ((e : EntFault) → (e ≡ fault.Memory) ⊎ (e ≢ fault.Memory)) → (f : Fields) → Shows i f → MatchResult r (λ g. g ≡ f) (λ e. e ≡ fault.Memory)

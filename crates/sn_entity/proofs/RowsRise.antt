@@ -1,5 +1,6 @@
 -- The places of the reads of each row rise.
-use Rattle.std.proofs.Common.{◌≡◌, ℕ, ◌<◌, ◌≤◌, Bool, true, false, ◌&&◌, nat_lt, List, [], ◌∷◌, refl, arith, rules, tests}
+use Rattle.std.proofs.Common.{◌≡◌, ℕ, ◌<◌, ◌≤◌, Bool, true, ◌&&◌, nat_lt, List, [], ◌∷◌, refl, arith, rules, tests}
+use Rattle.std.proofs.lemmas.Bool.{and_parts}
 use Rattle.sn_entity.specs.declared.row.Read.{Read}
 use Rattle.sn_entity.specs.declared.row.RowId.{RowId}
 use Rattle.sn_entity.specs.declared.row.RowId.TheVariants.{Project, Workplan, IfStatement, NonSequential, MachiningWorkingstep, Setup, WorkpieceSetup, Workpiece, Block, PlanarFace, ClosedPocket, Slot, RoundHole, Boss, PlaneRoughMilling, PlaneFinishMilling, BottomAndSideRoughMilling, BottomAndSideFinishMilling, Drilling, CuttingTool, MillingCuttingTool, Endmill, TwistDrill, MillingToolDimension, MillingTechnology, Axis2Placement3d, CartesianPoint, Direction, Plane, ElementarySurface, TolerancedLengthMeasure, NumericParameter, LinearPath, GeneralPath, Polyline, LinearProfile, SquareUProfile, GeneralClosedProfile, RectangularClosedProfile, CircularClosedProfile, RadiusedSlotEndType, ThroughBottomCondition, FlatHoleBottom, ConicalHoleBottom, PlanarPocketBottomCondition, ThroughPocketBottomCondition, AndExpression, OrExpression, XorExpression, NotExpression, ComparisonEqual, ComparisonNotEqual, ComparisonLess, ComparisonLessEqual, ComparisonGreater, ComparisonGreaterEqual, NcVariable, NcConstant}
@@ -70,17 +71,13 @@ rows_rise ComparisonGreaterEqual = refl
 rows_rise NcVariable = refl
 rows_rise NcConstant = refl
 
-both : (a b : Bool) → (a && b) ≡ true → (a ≡ true) × (b ≡ true)
-both true b h = (refl, h)
-both false b h = cc
-
 less : (a b : ℕ) → nat_lt a b ≡ true → a < b
 less a b h = search (rules, tests)
 
 last_above : (above : ℕ) (rs : List Read) → rising above rs ≡ true → above ≤ last_place above rs
 last_above above [] h = omega arith
 last_above above (r ∷ rs) h =
-    let s = both (nat_lt above r.place) (rising r.place rs) h in
+    let s = and_parts (nat_lt above r.place) (rising r.place rs) h in
     let rest = last_above r.place rs s.1 in
     let lt = less above r.place s.0 in
     omega arith
@@ -88,7 +85,7 @@ last_above above (r ∷ rs) h =
 rises : (above most : ℕ) (rs : List Read) → rising above rs ≡ true → last_place above rs ≤ most → IsRising above most rs
 rises above most [] h enough = tt
 rises above most (r ∷ rs) h enough =
-    let s = both (nat_lt above r.place) (rising r.place rs) h in
+    let s = and_parts (nat_lt above r.place) (rising r.place rs) h in
     let last = last_above r.place rs s.1 in
     (less above r.place s.0, omega arith, rises r.place most rs s.1 enough)
 

@@ -1,4 +1,4 @@
--- What a parameter is by its kind, and what it gives.
+-- MEANING (this project's own): what a parameter is by its kind, and what it gives.
 use Rattle.std.specs.Prelude.{◌≡◌, ◌⊎◌, ℕ, ℤ, pos, List, [], ◌∷◌, IsTrue}
 use Rattle.sn_geom.specs.Decimal.{Decimal, IsNumber, IsNumberText}
 use Rattle.sn_p21.specs.declared.file.Param.{Param}

@@ -4,5 +4,7 @@ pub mod OneRow
 pub mod Parts
 pub mod Reads
 pub mod Refusal
+pub mod Shape
 pub mod Shows
 pub mod Table
+pub mod TableLaws

@@ -1,8 +1,9 @@
--- The numbers of parameters: their units and limits (this project's own). As in ISO 14649, lengths are written in
+-- MEANING (this project's own): the numbers of parameters, their units and limits. As in ISO 14649, lengths are written in
 -- millimetres, feeds in metres per second and speeds in revolutions per second.
-use Rattle.std.specs.Prelude.{◌≡◌, ℕ, ◌*◌, ◌/◌, ◌≤◌, ℤ, pos, neg_ℤ, ◌≤ℤ◌, unsigned_abs, Bool, true, false, cond, List}
+use Rattle.std.specs.Prelude.{◌≡◌, ℕ, ◌≤◌, ℤ, pos, neg_ℤ, ◌≤ℤ◌, unsigned_abs, Bool, true, false, cond, List}
 use Rattle.sn_geom.specs.Decimal.{Decimal, IsNumber, ScalesTo}
-use Rattle.sn_geom.specs.declared.limits.TheConstants.{PER_MM, REACH}
+use Rattle.sn_geom.specs.declared.limits.TheConstants.{PER_MM, REACH, LEAST_DIAMETER, MOST_DIAMETER, MOST_EDGE, FEED_SCALE, SPEED_SCALE, MOST_RATE}
+use Rattle.sn_entity.specs.declared.measure.TheConstants.{MOST_NUMBER, MOST_RATIO}
 
 -- how a number is taken: times a factor, rounded, its sign dropped or not, from the least to the greatest value
 pub record Measure : Type 0 where
@@ -14,10 +15,6 @@ pub record Measure : Type 0 where
 abbrev pub measure : ℕ → ℤ → ℤ → Measure
 measure factor least greatest = record { factor = factor; signed = true; least = least; greatest = greatest }
 
--- a micrometre in units of length
-abbrev pub micrometre : ℕ
-micrometre = PER_MM / 1000
-
 abbrev pub length_from : ℤ → Measure
 length_from least = measure PER_MM least (pos REACH)
 
@@ -25,24 +22,24 @@ abbrev pub coordinate : Measure
 coordinate = length_from (neg_ℤ (pos REACH))
 
 abbrev pub diameter : Measure
-diameter = measure PER_MM (pos (10 * micrometre)) (pos (200000 * micrometre))
+diameter = measure PER_MM (pos LEAST_DIAMETER) (pos MOST_DIAMETER)
 
 abbrev pub edge_radius : Measure
-edge_radius = measure PER_MM (pos 0) (pos (100000 * micrometre))
+edge_radius = measure PER_MM (pos 0) (pos MOST_EDGE)
 
 abbrev pub feed : Measure
-feed = measure 60000 (pos 1) (pos 100000)
+feed = measure FEED_SCALE (pos 1) (pos MOST_RATE)
 
 abbrev pub speed : Measure
-speed = record { factor = 60; signed = false; least = pos 1; greatest = pos 100000 }
+speed = record { factor = SPEED_SCALE; signed = false; least = pos 1; greatest = pos MOST_RATE }
 
 abbrev pub thousandths : Measure
-thousandths = measure 1000 (neg_ℤ (pos 2000000000)) (pos 2000000000)
+thousandths = measure 1000 (neg_ℤ (pos MOST_NUMBER)) (pos MOST_NUMBER)
 
 abbrev pub ratio : Measure
-ratio = measure 1000 (neg_ℤ (pos 2000000)) (pos 2000000)
+ratio = measure 1000 (neg_ℤ (pos MOST_RATIO)) (pos MOST_RATIO)
 
--- what is small enough to be read exactly
+-- what is small enough to be read exactly: the condition of `Dec::scaled`
 pub record IsSmall (m : Measure) : Type 0 where
   pub factor : m.factor ≤ 60000
   pub least : unsigned_abs m.least ≤ 2000000000

@@ -1,4 +1,4 @@
--- The row of an instance.
+-- MEANING (this project's own): the row of an instance.
 use Rattle.std.specs.Prelude.{◌≡◌}
 use Rattle.sn_p21.specs.declared.file.Entity.{Entity}
 use Rattle.sn_p21.specs.declared.file.Instance.{Instance}

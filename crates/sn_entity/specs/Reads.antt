@@ -1,4 +1,4 @@
--- The reads of a row, one after another.
+-- Private (only the functions of this crate cite these words): the reads of a row, one after another.
 use Rattle.std.specs.Prelude.{◌≡◌, ℕ, ◌<◌, ◌≤◌, List, [], ◌∷◌, ◌++◌, length}
 use Rattle.sn_p21.specs.declared.file.Param.{Param}
 use Rattle.sn_p21.specs.declared.file.Entity.{Entity}

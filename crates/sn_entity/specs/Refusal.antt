@@ -1,4 +1,4 @@
--- Why what is read gives no value.
+-- Private (only the functions of this crate cite these words): why what is read gives no value.
 use Rattle.sn_entity.specs.declared.refusal.Refusal.{Refusal}
 use Rattle.sn_entity.specs.declared.refusal.Refusal.TheVariants.{Kind, Range, Memory}
 

@@ -1,4 +1,4 @@
--- What an instance shows by its row of the table, and why it does not.
+-- MEANING (this project's own): what an instance shows by its row of the table, and why it does not.
 use Rattle.std.specs.Prelude.{◌≡◌, ℕ, ◌-◌, ◌<◌, ◌≤◌, List, [], ◌∷◌, length, Some, slice_get}
 use Rattle.std.specs.List.{Contains}
 use Rattle.sn_p21.specs.declared.file.Param.{Param}
@@ -54,9 +54,10 @@ IsFault number e id fault.Memory = ⊥
 abbrev pub IsEntityFault : Instance → EntFault → Type 0
 IsEntityFault i why = (e : Entity) × (id : RowId) × HasRow i e id × IsFault i.number e id why
 
--- an instance shows one thing, or has one fault
+-- an instance shows one thing at most, or has one fault at most, and not both; one of the table cannot lack both
 abbrev pub OneShowing : Type 0
 OneShowing =
     ((i : Instance) (f g : Fields) → Shows i f → Shows i g → f ≡ g)
     × ((i : Instance) (why other : EntFault) → IsEntityFault i why → IsEntityFault i other → why ≡ other)
     × ((i : Instance) (f : Fields) (why : EntFault) → Shows i f → ¬ IsEntityFault i why)
+    × ((i : Instance) → IsKnown i → ((f : Fields) → ¬ Shows i f) → ((why : EntFault) → ¬ IsEntityFault i why) → ⊥)

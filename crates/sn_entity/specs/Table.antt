@@ -1,5 +1,6 @@
--- The table of entities: the keyword of each row, and the parameters that it reads by their places, which count from 1 (the
--- keywords are after the ISO 14649 series and the standards that it uses; places, kinds and limits are this project's own).
+-- MEANING (keywords after ISO 14649-10, ISO 14649-11 and the standards that they use; places, kinds and limits are this
+-- project's own): the table of entities, with the keyword of each row and the parameters that it reads by their places,
+-- which count from 1.
 use Rattle.std.specs.Prelude.{◌≡◌, ◌⊎◌, ℕ, true, false, List, [], ◌∷◌, codes}
 use Rattle.sn_entity.specs.declared.row.RowId.{RowId}
 use Rattle.sn_entity.specs.declared.row.RowId.TheVariants.{Project, Workplan, IfStatement, NonSequential, MachiningWorkingstep, Setup, WorkpieceSetup, Workpiece, Block, PlanarFace, ClosedPocket, Slot, RoundHole, Boss, PlaneRoughMilling, PlaneFinishMilling, BottomAndSideRoughMilling, BottomAndSideFinishMilling, Drilling, CuttingTool, MillingCuttingTool, Endmill, TwistDrill, MillingToolDimension, MillingTechnology, Axis2Placement3d, CartesianPoint, Direction, Plane, ElementarySurface, TolerancedLengthMeasure, NumericParameter, LinearPath, GeneralPath, Polyline, LinearProfile, SquareUProfile, GeneralClosedProfile, RectangularClosedProfile, CircularClosedProfile, RadiusedSlotEndType, ThroughBottomCondition, FlatHoleBottom, ConicalHoleBottom, PlanarPocketBottomCondition, ThroughPocketBottomCondition, AndExpression, OrExpression, XorExpression, NotExpression, ComparisonEqual, ComparisonNotEqual, ComparisonLess, ComparisonLessEqual, ComparisonGreater, ComparisonGreaterEqual, NcVariable, NcConstant}
@@ -115,19 +116,22 @@ IsAmong row [] = ⊥
 IsAmong row (id ∷ ids) = (row ≡ id) ⊎ IsAmong row ids
 
 -- the rows of a group
+abbrev pub rows_of : Group → List RowId
+rows_of (One id) = id ∷ []
+rows_of Exec = Workplan ∷ IfStatement ∷ MachiningWorkingstep ∷ []
+rows_of Feat = PlanarFace ∷ ClosedPocket ∷ Slot ∷ RoundHole ∷ []
+rows_of Op = PlaneRoughMilling ∷ PlaneFinishMilling ∷ BottomAndSideRoughMilling ∷ BottomAndSideFinishMilling ∷ Drilling ∷ []
+rows_of Tool = CuttingTool ∷ MillingCuttingTool ∷ []
+rows_of Body = Endmill ∷ TwistDrill ∷ []
+rows_of Surf = Plane ∷ ElementarySurface ∷ []
+rows_of Len = TolerancedLengthMeasure ∷ NumericParameter ∷ []
+rows_of Path = LinearPath ∷ GeneralPath ∷ []
+rows_of Prof = GeneralClosedProfile ∷ RectangularClosedProfile ∷ CircularClosedProfile ∷ []
+rows_of Hbot = ThroughBottomCondition ∷ FlatHoleBottom ∷ ConicalHoleBottom ∷ []
+rows_of Pbot = PlanarPocketBottomCondition ∷ ThroughPocketBottomCondition ∷ []
+rows_of Cond = AndExpression ∷ OrExpression ∷ XorExpression ∷ NotExpression ∷ ComparisonEqual ∷ ComparisonNotEqual ∷ ComparisonLess ∷ ComparisonLessEqual ∷ ComparisonGreater ∷ ComparisonGreaterEqual ∷ []
+rows_of Val = NcVariable ∷ NcConstant ∷ []
+rows_of Island = []
+
 abbrev pub IsInGroup : Group → RowId → Type 0
-IsInGroup (One id) row = row ≡ id
-IsInGroup Exec row = IsAmong row (Workplan ∷ IfStatement ∷ MachiningWorkingstep ∷ [])
-IsInGroup Feat row = IsAmong row (PlanarFace ∷ ClosedPocket ∷ Slot ∷ RoundHole ∷ [])
-IsInGroup Op row = IsAmong row (PlaneRoughMilling ∷ PlaneFinishMilling ∷ BottomAndSideRoughMilling ∷ BottomAndSideFinishMilling ∷ Drilling ∷ [])
-IsInGroup Tool row = IsAmong row (CuttingTool ∷ MillingCuttingTool ∷ [])
-IsInGroup Body row = IsAmong row (Endmill ∷ TwistDrill ∷ [])
-IsInGroup Surf row = IsAmong row (Plane ∷ ElementarySurface ∷ [])
-IsInGroup Len row = IsAmong row (TolerancedLengthMeasure ∷ NumericParameter ∷ [])
-IsInGroup Path row = IsAmong row (LinearPath ∷ GeneralPath ∷ [])
-IsInGroup Prof row = IsAmong row (GeneralClosedProfile ∷ RectangularClosedProfile ∷ CircularClosedProfile ∷ [])
-IsInGroup Hbot row = IsAmong row (ThroughBottomCondition ∷ FlatHoleBottom ∷ ConicalHoleBottom ∷ [])
-IsInGroup Pbot row = IsAmong row (PlanarPocketBottomCondition ∷ ThroughPocketBottomCondition ∷ [])
-IsInGroup Cond row = IsAmong row (AndExpression ∷ OrExpression ∷ XorExpression ∷ NotExpression ∷ ComparisonEqual ∷ ComparisonNotEqual ∷ ComparisonLess ∷ ComparisonLessEqual ∷ ComparisonGreater ∷ ComparisonGreaterEqual ∷ [])
-IsInGroup Val row = IsAmong row (NcVariable ∷ NcConstant ∷ [])
-IsInGroup Island row = ⊥
+IsInGroup group row = IsAmong row (rows_of group)

@@ -1,5 +1,6 @@
 //! Why an instance does not show its row.
 
+use std::alloc::AllocError;
 use thiserror::Error;
 
 /// Why an instance does not show its row. Each but `Memory` begins with the number of the instance.
@@ -16,4 +17,15 @@ pub enum EntFault {
     Range(u32, u32),
     #[error("out of memory")]
     Memory,
+}
+
+impl From<AllocError> for EntFault {
+    ghost use Rattle.std.specs.Prelude.{◌≡◌};
+    ghost use Rattle.sn_entity.specs.declared.fault.EntFault.TheVariants.{Memory};
+
+    ghost from_gives = { λ _ e. e ≡ Memory };
+
+    fn from(_error: AllocError) -> EntFault {
+        EntFault::Memory
+    }
 }

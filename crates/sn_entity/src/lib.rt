@@ -17,7 +17,7 @@ mod tests;
 mod value;
 
 pub use fault::EntFault;
-pub use laws::one_row;
+pub use laws::{in_group_or_not, one_row, shows_shape};
 pub use row::{Group, Kind, Read, Row, RowId};
 pub use shown::{fields, one_showing, row_of};
 pub use table::{Reads, reads_of};

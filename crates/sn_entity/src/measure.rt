@@ -1,18 +1,24 @@
 //! The numbers of parameters, by their units and limits.
-ghost use Rattle.std.specs.Prelude.{◌≡◌, ◌≤◌, ◌↔◌, ℤ, pos, IsTrue, IfOk, IfErr, OnOk, unsigned_abs, cond};
+ghost use Rattle.std.specs.Prelude.{◌≡◌, ◌≤◌, ◌↔◌, pos, IsTrue, IfOk, IfErr, OnOk, unsigned_abs, cond};
 ghost use Rattle.sn_geom.specs.Decimal.{Decimal, IsNumber, IsNumberText};
 ghost use Rattle.sn_entity.specs.Measure.{IsSmall, IsWithin, Measures, measure, length_from, coordinate, diameter, edge_radius, feed, speed, thousandths, ratio};
 ghost use Rattle.sn_entity.specs.Refusal.{IsRefused};
 
 use crate::refusal::Refusal;
-use sn_geom::{Dec, DecFault, PER_MM, REACH, read_dec};
+use sn_geom::{
+    Dec, DecFault, FEED_SCALE, LEAST_DIAMETER, MOST_DIAMETER, MOST_EDGE, MOST_RATE, PER_MM, REACH,
+    SPEED_SCALE, read_dec,
+};
 use std::marker::Model;
 
 /// The size up to which a rounded number is read. Each limit of a number is at most that.
 const WIDEST: u32 = 2_000_000_000;
 
-/// Units of length in a micrometre.
-const MICROMETRE: i32 = PER_MM as i32 / 1_000;
+/// The greatest size of a number, in thousandths.
+const MOST_NUMBER: u32 = 2_000_000_000;
+
+/// The greatest size of a ratio of a direction, in thousandths.
+const MOST_RATIO: u32 = 2_000_000;
 
 /// How a number is taken: times a factor, rounded, its sign kept or not, from the least to the greatest value.
 #[derive(Drop)]
@@ -132,21 +138,21 @@ pub fn coordinate() -> Measure
 pub fn diameter() -> Measure
     ensures { result ≡ diameter }
 {
-    signed_measure(PER_MM, 10 * MICROMETRE, 200_000 * MICROMETRE)
+    signed_measure(PER_MM, LEAST_DIAMETER as i32, MOST_DIAMETER as i32)
 }
 
 /// The edge radius of a tool, in units of length.
 pub fn edge_radius() -> Measure
     ensures { result ≡ edge_radius }
 {
-    signed_measure(PER_MM, 0, 100_000 * MICROMETRE)
+    signed_measure(PER_MM, 0, MOST_EDGE as i32)
 }
 
 /// A feed in mm/min, of one in m/s.
 pub fn feed() -> Measure
     ensures { result ≡ feed }
 {
-    signed_measure(60_000, 1, 100_000)
+    signed_measure(FEED_SCALE, 1, MOST_RATE as i32)
 }
 
 /// The speed of a spindle in rev/min, of one in rev/s with or without a sign.
@@ -154,10 +160,10 @@ pub fn speed() -> Measure
     ensures { result ≡ speed }
 {
     Measure {
-        factor: 60,
+        factor: SPEED_SCALE,
         signed: false,
         least: 1,
-        greatest: 100_000,
+        greatest: MOST_RATE as i32,
     }
 }
 
@@ -165,12 +171,12 @@ pub fn speed() -> Measure
 pub fn thousandths() -> Measure
     ensures { result ≡ thousandths }
 {
-    signed_measure(1_000, -2_000_000_000, 2_000_000_000)
+    signed_measure(1_000, -(MOST_NUMBER as i32), MOST_NUMBER as i32)
 }
 
 /// A ratio of a direction, in thousandths.
 pub fn ratio() -> Measure
     ensures { result ≡ ratio }
 {
-    signed_measure(1_000, -2_000_000, 2_000_000)
+    signed_measure(1_000, -(MOST_RATIO as i32), MOST_RATIO as i32)
 }

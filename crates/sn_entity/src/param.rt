@@ -1,8 +1,7 @@
 //! The parameters of an instance, by their kinds.
-ghost use Rattle.std.specs.Prelude.{◌≡◌, ◌↔◌, ◌⊎◌, ℕ, ℤ, List, IsTrue, IfSome, IfNone, IfOk, IfErr};
+ghost use Rattle.std.specs.Prelude.{◌≡◌, ◌↔◌, ◌⊎◌, ℕ, List, IsTrue, IfSome, IfNone, IfOk, IfErr};
 ghost use Rattle.sn_entity.specs.Measure.{IsSmall};
 ghost use Rattle.sn_entity.specs.Form.{IsThrough, IsSpelled, IsLack, IsNumeric, HasValue, GivesNumber, AreRefs, GivesText, GivesOne, GivesMany, GivesTwo, GivesThree, GivesPair, GivesTriple, GivesLack, GivesZero, GivesOwn, AreTwoNumeric, AreThreeNumeric, Gives, HasForm, MayLack, ReadGives, ReadHasForm};
-ghost use Rattle.sn_geom.specs.Decimal.{Decimal, IsNumber, IsNumberText};
 ghost use Rattle.sn_entity.specs.Refusal.{IsRefused};
 
 use crate::measure::{
@@ -99,9 +98,7 @@ fn references(alloc: Global, params: &[Param]) -> Result<Refs, Refusal>
         let Some(number) = reference(param) else {
             return Err(Refusal::Kind);
         };
-        let Ok(()) = refs.push(number) else {
-            return Err(Refusal::Memory);
-        };
+        refs.push(number)?;
     }
     Ok(refs)
 }
@@ -125,9 +122,7 @@ fn text(alloc: Global, param: &Param) -> Result<Value, Refusal>
     let Param::Text(text) = through(param) else {
         return Err(Refusal::Kind);
     };
-    let Ok(text) = Bytes::from_slice(alloc, text.as_slice()) else {
-        return Err(Refusal::Memory);
-    };
+    let text = Bytes::from_slice(alloc, text.as_slice())?;
     Ok(Value::Text(text))
 }
 

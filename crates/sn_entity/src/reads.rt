@@ -1,5 +1,5 @@
 //! The reads of a row, one after another.
-ghost use Rattle.std.specs.Prelude.{◌≡◌, ◌≢◌, ◌≤◌, List, length, IfOk, IfErr};
+ghost use Rattle.std.specs.Prelude.{◌≡◌, ◌≢◌, length, IfOk, IfErr};
 ghost use Rattle.sn_entity.specs.Reads.{IsRising, ShowsRow, StopsAt, fault_at};
 ghost use Rattle.sn_entity.specs.Shows.{AreGiven, IsFault};
 ghost use Rattle.sn_entity.specs.Table.{last_place, reads_of};
@@ -38,11 +38,7 @@ fn values_of(
     let mut values = Values::new(alloc);
     for read in reads {
         match read_param(alloc, read, &params[read.place as usize - 1]) {
-            Ok(value) => {
-                let Ok(()) = values.push(value) else {
-                    return Err(EntFault::Memory);
-                };
-            }
+            Ok(value) => values.push(value)?,
             Err(why) => return Err(fault_at(number, read.place, why)),
         }
     }

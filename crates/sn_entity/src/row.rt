@@ -1,4 +1,7 @@
 //! The rows of the table, and what they read.
+ghost use Rattle.std.specs.Prelude.{◌≡◌, ◌↔◌, IsTrue, false};
+ghost use Rattle.sn_entity.specs.Table.{IsInGroup, at};
+ghost use Rattle.sn_entity.specs.declared.row.Kind.TheVariants.{B};
 
 /// A row of the table, in the order of the table.
 #[derive(Clone, Copy, Debug, PartialEq, Eq)]
@@ -98,6 +101,60 @@ pub enum Group {
     Island,
 }
 
+impl Group {
+    /// Whether an instance of this row may stand where the group is wanted.
+    pub fn has(self, row: RowId) -> bool
+        ensures { IsTrue result ↔ IsInGroup self row }
+    {
+        use RowId::*;
+        match self {
+            Group::One(id) => row == id,
+            Group::Exec => matches!(row, Workplan | IfStatement | MachiningWorkingstep),
+            Group::Feat => matches!(row, PlanarFace | ClosedPocket | Slot | RoundHole),
+            Group::Op => matches!(
+                row,
+                PlaneRoughMilling
+                    | PlaneFinishMilling
+                    | BottomAndSideRoughMilling
+                    | BottomAndSideFinishMilling
+                    | Drilling
+            ),
+            Group::Tool => matches!(row, CuttingTool | MillingCuttingTool),
+            Group::Body => matches!(row, Endmill | TwistDrill),
+            Group::Surf => matches!(row, Plane | ElementarySurface),
+            Group::Len => matches!(row, TolerancedLengthMeasure | NumericParameter),
+            Group::Path => matches!(row, LinearPath | GeneralPath),
+            Group::Prof => matches!(
+                row,
+                GeneralClosedProfile | RectangularClosedProfile | CircularClosedProfile
+            ),
+            Group::Hbot => matches!(
+                row,
+                ThroughBottomCondition | FlatHoleBottom | ConicalHoleBottom
+            ),
+            Group::Pbot => matches!(
+                row,
+                PlanarPocketBottomCondition | ThroughPocketBottomCondition
+            ),
+            Group::Cond => matches!(
+                row,
+                AndExpression
+                    | OrExpression
+                    | XorExpression
+                    | NotExpression
+                    | ComparisonEqual
+                    | ComparisonNotEqual
+                    | ComparisonLess
+                    | ComparisonLessEqual
+                    | ComparisonGreater
+                    | ComparisonGreaterEqual
+            ),
+            Group::Val => matches!(row, NcVariable | NcConstant),
+            Group::Island => false,
+        }
+    }
+}
+
 /// What a parameter has to be, and what it gives.
 #[derive(Clone, Copy, Debug, PartialEq, Eq)]
 pub enum Kind {
@@ -147,7 +204,9 @@ pub struct Read {
 
 /// The blank with which a list of a fixed room is filled.
 impl Default for Read {
-    fn default() -> Read {
+    fn default() -> Read
+        ensures { result ≡ at 0 B }
+    {
         Read {
             place: 0,
             kind: Kind::B,

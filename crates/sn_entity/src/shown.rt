@@ -1,5 +1,5 @@
 //! What an instance shows by its row.
-ghost use Rattle.std.specs.Prelude.{◌≡◌, ◌≢◌, ◌⊎◌, List, IfSome, IfOk, IfErr, MatchResult, Some};
+ghost use Rattle.std.specs.Prelude.{◌≡◌, ◌≢◌, ◌⊎◌, IfSome, IfOk, IfErr, MatchResult, Some};
 ghost use Rattle.sn_entity.specs.Table.{name_of};
 ghost use Rattle.sn_entity.specs.Shows.{IsKnown, Shows, IsEntityFault, OneShowing};
 
@@ -51,7 +51,7 @@ pub fn fields(alloc: Global, inst: &Instance) -> Result<Fields, EntFault>
     )
 }
 
-/// An instance shows one thing, or has one fault.
+/// An instance of the table shows one thing or has one fault, and not both.
 pub fn one_showing()
     ensures { OneShowing }
 {

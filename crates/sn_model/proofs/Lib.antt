@@ -1,5 +1,8 @@
-pub mod KeptLemmas
-pub mod OneModelLemmas
-pub mod Places
-pub mod ProjectLemmas
-pub mod RowLemmas
+mod FoundLemmas
+mod KeptByRowLemmas
+mod KeptLemmas
+mod ModelOrFault
+mod OneModelLemmas
+mod Places
+mod ProjectLemmas
+mod RowLemmas

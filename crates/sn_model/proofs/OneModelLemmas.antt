@@ -11,6 +11,7 @@ use Rattle.sn_model.specs.declared.model.Entry.TheVariants.{Typed, Bad, Stranger
 use Rattle.sn_model.specs.declared.model.Kept.{Kept}
 use Rattle.sn_model.specs.ModelContent.{ModelContent}
 use Rattle.sn_model.specs.Built.{IsOfRow, IsEntryOf, AreKept, HaveOneProject, IsModelOf, IsModelFault, OneModel}
+use Rattle.sn_model.proofs.ModelOrFault.{model_or_fault}
 use Rattle.sn_model.proofs.ProjectLemmas.{one_along, second_along, one_number, second_number, one_not_none, second_not_none, second_not_one}
 
 IsRowOf : Instance → Option RowId → Type 0
@@ -82,4 +83,4 @@ no_fault is m (TwoProjects n) h k = second_not_one is n m.project (second_along 
 no_fault is m Memory h k = k
 
 pub one_model_from : OneShowing → OneRow → OneModel
-one_model_from law rows = (model_same law rows, fault_same, no_fault)
+one_model_from law rows = (model_same law rows, fault_same, no_fault, model_or_fault law)

@@ -1,4 +1,4 @@
--- The model of instances, and why they have none.
+-- MEANING (this project's own): the model of instances, and why they have none.
 use Rattle.std.specs.Prelude.{◌≡◌, ℕ, List, [], ◌∷◌, ◌++◌, Option, Some, None}
 use Rattle.std.specs.List.{AllByRecursion}
 use Rattle.sn_p21.specs.declared.file.Entity.{Entity}
@@ -71,9 +71,10 @@ IsModelFault is NoProject = HaveNoProject is
 IsModelFault is (TwoProjects n) = HaveSecondProject is n
 IsModelFault is Memory = ⊥
 
--- instances give one model, or have one fault
+-- instances have one model at most, or one fault at most, and not both, and they cannot lack both
 abbrev pub OneModel : Type 0
 OneModel =
     ((is : List Instance) (m n : ModelContent) → IsModelOf is m → IsModelOf is n → m ≡ n)
     × ((is : List Instance) (why other : ModelFault) → IsModelFault is why → IsModelFault is other → why ≡ other)
     × ((is : List Instance) (m : ModelContent) (why : ModelFault) → IsModelOf is m → ¬ IsModelFault is why)
+    × ((is : List Instance) → ((m : ModelContent) → ¬ IsModelOf is m) → ((why : ModelFault) → ¬ IsModelFault is why) → ⊥)

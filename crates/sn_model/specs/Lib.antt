@@ -1,2 +1,3 @@
 pub mod Built
+pub mod BuiltLaws
 pub mod ModelContent

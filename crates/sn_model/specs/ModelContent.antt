@@ -1,4 +1,4 @@
--- What a model holds.
+-- MEANING (this project's own): what a model holds.
 use Rattle.std.specs.Prelude.{ℕ, nat_eq, List, Option, Some, None}
 use Rattle.std.specs.Map.{lookup}
 use Rattle.sn_entity.specs.declared.row.RowId.{RowId}

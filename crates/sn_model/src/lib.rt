@@ -2,10 +2,12 @@
 #![tactic(auto)]
 
 mod fault;
+mod laws;
 mod model;
 
 pub use fault::ModelFault;
-pub use model::{Entry, Kept, Model, build, one_model};
+pub use laws::{kept_by_row, one_model, project_has_row};
+pub use model::{Entry, Kept, Model, build};
 
 #[cfg(test)]
 mod tests;

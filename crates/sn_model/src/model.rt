@@ -3,11 +3,12 @@ ghost use Rattle.std.specs.Prelude.{◌≡◌, ◌≢◌, ◌⊎◌, ◌↔◌, 
 ghost use Rattle.std.specs.Option.{option_copied};
 ghost use Rattle.sn_model.specs.ModelContent.{ModelContent, entry_of, row_of_number};
 ghost use Rattle.sn_entity.specs.Shows.{IsKnown};
-ghost use Rattle.sn_model.specs.Built.{IsOfRow, IsProject, HaveOneProject, IsEntryOf, AreKept, IsModel, IsModelOf, IsModelFault, OneModel};
+ghost use Rattle.sn_model.specs.Built.{IsOfRow, IsProject, HaveOneProject, IsEntryOf, AreKept, IsModel, IsModelOf, IsModelFault};
 
 use crate::fault::ModelFault;
+use crate::laws::one_model;
 use indexmap::IndexMap;
-use sn_entity::{EntFault, Fields, RowId, fields, one_row, one_showing, row_of};
+use sn_entity::{EntFault, Fields, RowId, fields, row_of};
 use sn_p21::{File, Instance, Instances};
 use std::alloc::{AllocError, Global};
 
@@ -167,12 +168,4 @@ fn instance_row(instance: &Instance) -> Option<RowId>
         return None;
     };
     row_of(entity.keyword.as_slice())
-}
-
-/// Instances give one model, or have one fault.
-pub fn one_model()
-    ensures { OneModel }
-{
-    one_row();
-    one_showing();
 }

@@ -19,17 +19,19 @@ macro_rules! file {
 #[test]
 fn files_without_one_project_are_refused(rt: HostRuntime) -> Result<(), Fail> {
     let rows = [
-        ("", None),
-        ("#1=WORKPLAN();", None),
-        ("#1=(PROJECT()WORKPLAN());", None),
-        ("#7=PROJECT();#5=OWN();#3=PROJECT();#9=PROJECT();", Some(3)),
+        ("", ModelFault::NoProject),
+        ("#1=WORKPLAN();", ModelFault::NoProject),
+        ("#1=(PROJECT()WORKPLAN());", ModelFault::NoProject),
+        (
+            "#7=PROJECT();#5=OWN();#3=PROJECT();#9=PROJECT();",
+            ModelFault::TwoProjects(3),
+        ),
     ];
-    for (instances, second) in rows {
+    for (instances, fault) in rows {
         let file = file!(rt, instances);
         match build(rt.alloc(), &file) {
-            Err(ModelFault::NoProject) => assert_eq!(rt; second, None),
-            Err(ModelFault::TwoProjects(number)) => assert_eq!(rt; second, Some(number)),
-            _ => return Err(Fail::from("another answer")),
+            Ok(_) => return Err(Fail::from("a model")),
+            Err(told) => assert_eq!(rt; told, fault),
         }
     }
     Ok(())

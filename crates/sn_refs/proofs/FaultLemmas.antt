@@ -10,7 +10,7 @@ use Rattle.sn_refs.specs.declared.fault.RefFault.{RefFault}
 use Rattle.sn_refs.specs.declared.fault.RefFault.TheVariants as fault
 use Rattle.sn_refs.specs.declared.reference.Reference.{Reference}
 use Rattle.sn_refs.specs.Reference.{references, references_of_entry, IsOfKind}
-use Rattle.sn_refs.specs.Sound.{IsSound, IsFirstBad, IsOwnFault, IsLeastFault, IsLeastOnCycle, IsRefFault, OneVerdict}
+use Rattle.sn_refs.specs.Sound.{IsSound, IsFirstBad, IsOwnFault, IsLeastFault, IsLeastOnCycle, IsRefFault}
 
 first_bad : (P : Reference → Type 0) (before : List Reference) (r : Reference) (after others : List Reference) (q : Reference) (more : List Reference) → before ++ r ∷ after ≡ others ++ q ∷ more → AllByRecursion P before → AllByRecursion P others → ¬ P r → ¬ P q → r ≡ q
 first_bad P [] r after [] q more e good fine bad worse = cc
@@ -98,5 +98,9 @@ sound_or_fault m why sound h =
     (λ a. sound.acyclic a.0 a.2.reached a.2.on_cycle)
     (verdict_of m why h)
 
-pub one_verdict : OneVerdict
-one_verdict = (one_fault, sound_or_fault)
+pub least_is_fault : (m : ModelContent) (why : RefFault) → IsLeastFault m why → IsRefFault m why
+least_is_fault m (fault.Entity a) h = h
+least_is_fault m (fault.Dangling a b) h = h
+least_is_fault m (fault.WrongKind a b c) h = h
+least_is_fault m (fault.Cycle a) h = absurd h.own
+least_is_fault m fault.Memory h = h

@@ -1,5 +1,5 @@
 -- The references of one instance, looked at one after another.
-use Rattle.std.proofs.Common.{◌≡◌, ℕ, suc, ◌+◌, ◌<◌, ◌≤◌, length, get_or, take, drop, drop-cons, List, [], ◌∷◌, ◌++◌, Option, Some, subst, sym, ap, ◌∙◌, ⊎_elim, arith, append_assoc}
+use Rattle.std.proofs.Common.{◌≡◌, ℕ, suc, ◌+◌, ◌<◌, ◌≤◌, length, get_or, take, drop, drop-cons, List, [], ◌∷◌, ◌++◌, Option, Some, subst, sym, ap, ◌∙◌, ⊎_elim, append_assoc}
 use Rattle.std.proofs.lemmas.List.{take-append-drop, take_all, take_more}
 use Rattle.std.proofs.lemmas.List.Elements.{Contains-append_left, Contains-push, Contains-push_cases, All-contains, All-from_recursion}
 use Rattle.std.specs.List.{Contains, AllByRecursion}
@@ -30,12 +30,6 @@ no_own_fault m n less (fault.Dangling a b) h = no_first_bad m n h.1.0 less.1 h.1
 no_own_fault m n less (fault.WrongKind a b c) h = no_first_bad m n h.1.0 less.1 h.1.1
 no_own_fault m n less (fault.Cycle a) h = h
 no_own_fault m n less fault.Memory h = h
-
-pub no_targets : (m : ModelContent) → AreTargets m [] []
-no_targets m = record {
-  sound = λ k h. absurd (let l : h.0 < 0 = h.1 in omega arith);
-  complete = λ r h. absurd (let l : h.0 < 0 = h.1 in omega arith);
-}
 
 pub one_more_target : (m : ModelContent) (rs : List Reference) (ts : List ℕ) (r : Reference) → IsOfKind m r → AreTargets m rs ts → AreTargets m (rs ++ r ∷ []) (ts ++ r.target ∷ [])
 one_more_target m rs ts r kind h = record {

@@ -1,12 +1,13 @@
-pub mod Chains
-pub mod EndLemmas
-pub mod FaultLemmas
-pub mod FinishLemmas
-pub mod InstanceLemmas
-pub mod MarkLemmas
-pub mod MergeLemmas
-pub mod ModelLemmas
-pub mod Paths
-pub mod RankLemmas
-pub mod ReachLemmas
-pub mod WalkLemmas
+mod Chains
+mod EndLemmas
+mod FaultLemmas
+mod FinishLemmas
+mod InstanceLemmas
+mod MarkLemmas
+mod MergeLemmas
+mod ModelLemmas
+mod Paths
+mod RankLemmas
+mod ReachLemmas
+mod SoundOrFault
+mod WalkLemmas

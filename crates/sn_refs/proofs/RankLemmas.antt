@@ -6,7 +6,7 @@ use Rattle.std.proofs.lemmas.List.Elements.{Contains-append_right, Contains-appe
 use Rattle.std.proofs.lemmas.Map.Keys.{IsDistinct-cons, IsDistinct-from_apart}
 use Rattle.std.proofs.lemmas.Map.Steps.{length-le_from_keys}
 use Rattle.std.specs.List.{Contains, AllByRecursion, IsDistinct, list_any}
-use Rattle.sn_model.specs.Built.{IsModel}
+use Rattle.sn_model.specs.BuiltLaws.{KeptByRow, ProjectHasRow}
 use Rattle.sn_model.specs.ModelContent.{ModelContent}
 use Rattle.sn_refs.specs.declared.reference.Reference.{Reference}
 use Rattle.sn_refs.specs.Path.{IsClosed}
@@ -14,6 +14,7 @@ use Rattle.sn_refs.specs.Reference.{references, Names, IsChain, IsReached}
 use Rattle.sn_refs.specs.Sound.{IsSound, IsOrdered, SoundIsRanked}
 use Rattle.sn_refs.proofs.Chains.{IsChain-append, leads_by_name, reached_on, closed_chain}
 use Rattle.sn_refs.proofs.EndLemmas.{reached_is_kept}
+use Rattle.sn_refs.proofs.ModelLemmas.{has_rows, HasRows}
 use Rattle.sn_refs.proofs.Paths.{IsWithin, Contains-nil, Contains-head, Contains-one, Contains-one_same, Contains-cons, Contains-cons_cases}
 
 -- each of the trail leads to n by one reference at least
@@ -94,7 +95,7 @@ module _ (m : ModelContent) (n : ℕ) (visit : (k : ℕ) → Names m n k → (or
         λ k h. ⊎_elim (λ e. subst (Contains rest.0) e (rest.2 t (first.3 t (Contains-one t)))) (λ c. rest.3 k c) (Contains-cons_cases ts t k h),
       )
 
-module _ (m : ModelContent) (model : IsModel m) (sound : IsSound m) where
+module _ (m : ModelContent) (rows : HasRows m) (sound : IsSound m) where
   all_named : (n : ℕ) → IsReached m n → (k : ℕ) → Contains (targets_of (references n m)) k → Names m n k
   all_named n reached k h =
       let one : (r : Reference) × Contains (references n m) r × (r.target ≡ k) = target_of_one (references n m) k h in
@@ -116,7 +117,7 @@ module _ (m : ModelContent) (model : IsModel m) (sound : IsSound m) where
 
   trail_is_short : (trail : List ℕ) → IsDistinct nat_eq trail → ((a : ℕ) → Contains trail a → IsReached m a) → length trail ≤ length m.kept
   trail_is_short trail distinct reached =
-      length-le_from_keys nat_eq_equiv trail m.kept distinct (λ q h. reached_is_kept m q model (reached q (held_by_any trail q h)))
+      length-le_from_keys nat_eq_equiv trail m.kept distinct (λ q h. reached_is_kept m q rows (reached q (held_by_any trail q h)))
 
   order_of : (fuel : ℕ) (trail : List ℕ) (n : ℕ) → length m.kept ≤ fuel + length trail → IsDistinct nat_eq trail → ((a : ℕ) → Contains trail a → IsReached m a) → IsReached m n → IsTrail m trail n → (order : List ℕ) → IsOrdered m order → IsOrderWith m order (n ∷ [])
   order_of zero trail n long distinct reached here leads order ordered =
@@ -138,7 +139,7 @@ ordered_closed m (n ∷ earlier) ordered a k h name =
 no_trail : IsDistinct nat_eq []
 no_trail = IsDistinct-from_apart nat_eq [] (λ i j d l within. absurd (omega arith))
 
-pub sound_is_ranked : SoundIsRanked
-sound_is_ranked m model sound =
-    let order : IsOrderWith m [] (m.project ∷ []) = order_of m model sound (length m.kept) [] m.project (omega arith) no_trail (λ a h. absurd (Contains-nil a h)) ([], refl) (λ a h. absurd (Contains-nil a h)) [] tt in
+pub sound_is_ranked : KeptByRow → ProjectHasRow → SoundIsRanked
+sound_is_ranked kept project m model sound =
+    let order : IsOrderWith m [] (m.project ∷ []) = order_of m (has_rows kept project m model) sound (length m.kept) [] m.project (omega arith) no_trail (λ a h. absurd (Contains-nil a h)) ([], refl) (λ a h. absurd (Contains-nil a h)) [] tt in
     (order.0, order.1, λ n h. closed_chain m order.0 (ordered_closed m order.0 order.1) m.project h.0 n (order.3 m.project (Contains-one m.project)) h.1)

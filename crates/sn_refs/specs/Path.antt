@@ -1,5 +1,5 @@
--- The path of a walk along references: parts of instances that lead to each other, of which each outer part leads to the
--- inner ones. Instances behind the path are done. Only the functions of this crate cite these words.
+-- Private (only the functions of this crate cite these words): the path of a walk along references. It has parts of instances
+-- that lead to each other, of which each outer part leads to the inner ones. Instances behind the path are done.
 use Rattle.std.specs.Prelude.{◌≡◌, ◌≢◌, ◌⊎◌, ℕ, ◌≤◌, Bool, true, false, IsTrue, List, [], ◌∷◌, ◌++◌, length, Option, Some, None, nat_eq, nat_lt, min, IsSome, MatchOption, if◌then◌else◌, ⊤}
 use Rattle.std.specs.List.{Contains, AllByRecursion, IsDistinct}
 use Rattle.std.specs.Map.{lookup, keys_of}

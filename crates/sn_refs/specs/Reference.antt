@@ -1,4 +1,4 @@
--- What an instance of a model names, and what the project leads to.
+-- MEANING (this project's own): what an instance of a model names, and what the project leads to.
 use Rattle.std.specs.Prelude.{◌≡◌, ℕ, Bool, true, false, cond, List, [], ◌∷◌, ◌++◌, map, Option, Some, None}
 use Rattle.std.specs.List.{Contains}
 use Rattle.sn_entity.specs.declared.fault.EntFault.{EntFault}

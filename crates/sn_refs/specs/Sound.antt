@@ -1,4 +1,4 @@
--- Sound models, and the first fault of a model that is not sound.
+-- MEANING (this project's own): sound models, and the first fault of a model that is not sound.
 use Rattle.std.specs.Prelude.{◌≡◌, ◌≢◌, ℕ, ◌≤◌, List, [], ◌∷◌, ◌++◌, Some, None}
 use Rattle.std.specs.List.{Contains, AllByRecursion}
 use Rattle.sn_entity.specs.declared.value.Fields.{Fields}
@@ -51,11 +51,12 @@ abbrev pub IsRefFault : ModelContent → RefFault → Type 0
 IsRefFault m (fault.Cycle n) = IsLeastOnCycle m n
 IsRefFault m why = IsLeastFault m why
 
--- a model is sound, or has one fault
+-- a model has one fault at most, and none where it is sound; it cannot be unsound and have none
 abbrev pub OneVerdict : Type 0
 OneVerdict =
     ((m : ModelContent) (why other : RefFault) → IsRefFault m why → IsRefFault m other → why ≡ other)
     × ((m : ModelContent) (why : RefFault) → IsSound m → ¬ IsRefFault m why)
+    × ((m : ModelContent) → IsModel m → ¬ IsSound m → ((why : RefFault) → ¬ IsRefFault m why) → ⊥)
 
 -- what the project leads to does not depend on the order of the instances
 abbrev pub SameReach : Type 0

@@ -1,15 +1,17 @@
 //! Models whose references are sound.
 ghost use Rattle.std.specs.Prelude.{◌≡◌, ◌≢◌, ◌⊎◌, Some, IfOk, IfErr, MatchResult};
+ghost use Rattle.sn_entity.specs.Shape.{HaveShape};
+ghost use Rattle.sn_entity.specs.Table.{reads_of};
 ghost use Rattle.sn_model.specs.declared.model.Entry.TheVariants.{Typed};
-ghost use Rattle.sn_model.specs.ModelContent.{entry_of};
+ghost use Rattle.sn_model.specs.ModelContent.{entry_of, row_of_number};
 ghost use Rattle.sn_refs.specs.Reference.{names_block as has_block, IsReached};
-ghost use Rattle.sn_refs.specs.Sound.{IsChecked, IsSound, IsRefFault, OneVerdict, SameReach};
+ghost use Rattle.sn_refs.specs.Sound.{IsChecked, IsSound, IsRefFault};
 
 use crate::fault::RefFault;
 use crate::reference::{names_block, shown};
 use crate::walk::first_fault;
-use sn_entity::Fields;
-use sn_model::Model;
+use sn_entity::{EntFault, Fields};
+use sn_model::{Model, kept_by_row};
 use std::alloc::Global;
 
 /// A model in which each instance that the project leads to shows its row and names live instances of the wanted kinds, and
@@ -32,11 +34,14 @@ impl std::marker::Model for Checked {
 }
 
 impl Checked {
-    /// What an instance shows.
+    /// What an instance shows, by the row of its keyword and in the shape of that row.
     pub fn fields(&self, n: u32) -> &Fields
         requires { IsReached self.now n }
-        ensures { entry_of n self.now ≡ Some (Typed result.now) }
+        ensures entry { entry_of n self.now ≡ Some (Typed result.now) }
+        ensures row { row_of_number n self.now ≡ Some result.now.row }
+        ensures shape { HaveShape (reads_of result.now.row) result.now.values }
     {
+        kept_by_row();
         match shown(&self.model, n) {
             Some(fields) => fields,
             None => unreachable!(),
@@ -70,10 +75,12 @@ impl Checked {
 pub fn check(alloc: Global, m: Model) -> Result<Checked, RefFault>
     ensures found { IfOk result (λ c. (c ≡ m) × IsSound m) }
     ensures refused { IfErr result (λ e. e ≢ RefFault.Memory → IsRefFault m e) }
+    ensures entity { IfErr result (λ e. e ≢ RefFault.Entity EntFault.Memory) }
     // A sound model is passed on, and any other has its fault told, unless memory runs out.
     ensures only { IsSound m → MatchResult result (λ c. c ≡ m) (λ e. e ≡ RefFault.Memory) }
     ensures fault { (why : RefFault) → IsRefFault m why → MatchResult result (λ c. ⊥) (λ e. (e ≡ why) ⊎ (e ≡ RefFault.Memory)) }
 {
+    kept_by_row();
     m.rule();
     match first_fault(alloc, &m)? {
         Some(fault) => Err(fault),

@@ -5,10 +5,10 @@ use std::alloc::AllocError;
 use thiserror::Error;
 
 /// Why a model is not sound. The faults speak of instances that the project leads to.
-#[derive(Clone, Copy, Debug, Drop, Error)]
+#[derive(Clone, Copy, Debug, PartialEq, Eq, Drop, Error)]
 pub enum RefFault {
     /// An instance does not show its row.
-    #[error("an instance does not show its row")]
+    #[error("{0}")]
     Entity(EntFault),
     /// The number of an instance, and the place of a parameter that names no instance.
     #[error("instance {0} has parameter {1} that names nothing")]

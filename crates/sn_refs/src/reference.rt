@@ -1,7 +1,6 @@
 //! What an instance of a model names.
-ghost use Rattle.std.specs.Prelude.{◌≡◌, ◌↔◌, ◌++◌, IsTrue, IfOk, OnOk, MatchOption, List, map};
+ghost use Rattle.std.specs.Prelude.{◌≡◌, ◌↔◌, ◌++◌, IsTrue, IfOk, OnOk, map};
 ghost use Rattle.std.specs.Option.{option_copied};
-ghost use Rattle.sn_entity.specs.Table.{IsInGroup};
 ghost use Rattle.sn_model.specs.ModelContent.{entry_of};
 ghost use Rattle.sn_refs.specs.Reference.{fields_from, reference, names_block as has_block, references as all_references, references_of_value, references_of_values, IsOfKind};
 
@@ -39,64 +38,12 @@ pub fn names_block(model: &Model, n: u32) -> bool
     matches!(model.row(n), Some(RowId::Block))
 }
 
-/// Whether the group has the row.
-fn is_in_group(group: Group, row: RowId) -> bool
-    ensures { IsTrue result ↔ IsInGroup group row }
-{
-    use RowId::*;
-    match group {
-        Group::One(id) => row == id,
-        Group::Exec => matches!(row, Workplan | IfStatement | MachiningWorkingstep),
-        Group::Feat => matches!(row, PlanarFace | ClosedPocket | Slot | RoundHole),
-        Group::Op => matches!(
-            row,
-            PlaneRoughMilling
-                | PlaneFinishMilling
-                | BottomAndSideRoughMilling
-                | BottomAndSideFinishMilling
-                | Drilling
-        ),
-        Group::Tool => matches!(row, CuttingTool | MillingCuttingTool),
-        Group::Body => matches!(row, Endmill | TwistDrill),
-        Group::Surf => matches!(row, Plane | ElementarySurface),
-        Group::Len => matches!(row, TolerancedLengthMeasure | NumericParameter),
-        Group::Path => matches!(row, LinearPath | GeneralPath),
-        Group::Prof => matches!(
-            row,
-            GeneralClosedProfile | RectangularClosedProfile | CircularClosedProfile
-        ),
-        Group::Hbot => matches!(
-            row,
-            ThroughBottomCondition | FlatHoleBottom | ConicalHoleBottom
-        ),
-        Group::Pbot => matches!(
-            row,
-            PlanarPocketBottomCondition | ThroughPocketBottomCondition
-        ),
-        Group::Cond => matches!(
-            row,
-            AndExpression
-                | OrExpression
-                | XorExpression
-                | NotExpression
-                | ComparisonEqual
-                | ComparisonNotEqual
-                | ComparisonLess
-                | ComparisonLessEqual
-                | ComparisonGreater
-                | ComparisonGreaterEqual
-        ),
-        Group::Val => matches!(row, NcVariable | NcConstant),
-        Group::Island => false,
-    }
-}
-
 /// Whether what it names is live and of a wanted row.
 pub fn is_of_kind(model: &Model, reference: &Reference) -> bool
     ensures { IsTrue result ↔ IsOfKind model.now reference.now }
 {
     match model.row(reference.target) {
-        Some(row) => is_in_group(reference.group, row),
+        Some(row) => reference.group.has(row),
         None => false,
     }
 }

@@ -1,6 +1,7 @@
 //! The verdicts on small parts.
 
-use crate::{Checked, check};
+use crate::{Checked, RefFault, check};
+use sn_entity::{EntFault, RowId, Value};
 use sn_model::build;
 use sn_p21::read_file;
 use std::alloc::Global;
@@ -10,8 +11,8 @@ use std::test::Fail;
 const ONE_HOLE: &str =
     "#1=PROJECT('one',#2,(#3),$,$,$);#2=WORKPLAN('main',(#4),$,#5,$);#3=WORKPIECE('block',$,$,$,$,#6,());#4=MACHINING_WORKINGSTEP('hole',#7,#8,#9,$);#5=SETUP('setup',$,#7,(#10));#6=BLOCK('raw',#11,20.,20.,10.);#8=ROUND_HOLE('hole',#3,(#9),#13,#14,#15,$,#16);#9=DRILLING($,$,'plunge',$,$,#17,#18,$,$,$,$,$,$,$);#10=WORKPIECE_SETUP(#3,#11,$,$,());#11=AXIS2_PLACEMENT_3D('origin',#19,$,$);#12=AXIS2_PLACEMENT_3D('security',#20,$,$);#13=AXIS2_PLACEMENT_3D('hole',#21,$,$);#14=PLANE('depth',#22);#15=TOLERANCED_LENGTH_MEASURE(8.,$);#16=FLAT_HOLE_BOTTOM();#17=CUTTING_TOOL('mill 8',#23,(),80.,$,$);#18=MILLING_TECHNOLOGY(0.005,.TCP.,$,-12.,$,.F.,.F.,.F.,$);#19=CARTESIAN_POINT('',(0.,0.,0.));#20=CARTESIAN_POINT('',(0.,0.,20.));#21=CARTESIAN_POINT('',(10.,10.,10.));#22=AXIS2_PLACEMENT_3D('depth',#24,$,$);#23=ENDMILL(#25,4,.RIGHT.,.F.,$,$);#24=CARTESIAN_POINT('',(0.,0.,-6.));";
 
-/// What `check` answers of the model of these instances: the text of its fault.
-fn verdict(alloc: Global, instances: &str) -> Result<Result<Checked, String>, Fail> {
+/// What `check` answers of the model of these instances.
+fn verdict(alloc: Global, instances: &str) -> Result<Result<Checked, RefFault>, Fail> {
     let text = format!(in alloc;
         "ISO-10303-21;HEADER;FILE_DESCRIPTION((''),'1');FILE_NAME();FILE_SCHEMA(());ENDSEC;DATA;{instances}ENDSEC;END-ISO-10303-21;"
     )?;
@@ -21,10 +22,7 @@ fn verdict(alloc: Global, instances: &str) -> Result<Result<Checked, String>, Fa
     let Ok(model) = build(alloc, &file) else {
         return Err(Fail::from("no model"));
     };
-    match check(alloc, model) {
-        Ok(checked) => Ok(Ok(checked)),
-        Err(fault) => Ok(Err(format!(in alloc; "{fault}")?)),
-    }
+    Ok(check(alloc, model))
 }
 
 #[test]
@@ -32,66 +30,63 @@ fn parts_are_refused_by_their_first_fault(rt: HostRuntime) -> Result<(), Fail> {
     let rows = [
         (
             "#1=PROJECT('',#2,());#2=WORKPLAN('',());",
-            "an instance does not show its row",
+            RefFault::Entity(EntFault::Count(2, 4, 2)),
         ),
-        (
-            "#1=PROJECT('',#2,());",
-            "instance 1 has parameter 2 that names nothing",
-        ),
+        ("#1=PROJECT('',#2,());", RefFault::Dangling(1, 2)),
         // The first bad element of a list decides.
         (
             "#1=PROJECT('',#2,());#2=WORKPLAN('',(#3,#4,#1),$,$);#3=WORKPLAN('',(),$,$);",
-            "instance 2 has parameter 2 that names nothing",
+            RefFault::Dangling(2, 2),
         ),
         (
             "#1=PROJECT('',#2,());#2=WORKPLAN('',(#3,#1,#4),$,$);#3=WORKPLAN('',(),$,$);",
-            "instance 2 has parameter 2 that names instance 1 of a wrong kind",
+            RefFault::WrongKind(2, 2, 1),
         ),
         (
             "#1=PROJECT('',#2,());#2=WORKPLAN('',(#6),$,$);#6=OWN();",
-            "instance 2 has parameter 2 that names instance 6 of a wrong kind",
+            RefFault::WrongKind(2, 2, 6),
         ),
         // The least number decides, whatever the order of the instances and the way to them.
         (
             "#9=PROJECT('',#5,(#3));#5=WORKPLAN('',(#7),$,$);#3=WORKPIECE('',$,$,#8,$,$);",
-            "instance 3 has parameter 4 that names nothing",
+            RefFault::Dangling(3, 4),
         ),
         (
             "#9=PROJECT('',#5,(#3));#5=WORKPLAN('',());#3=WORKPIECE('',$,$,#8,$,$);",
-            "instance 3 has parameter 4 that names nothing",
+            RefFault::Dangling(3, 4),
         ),
         // A block is followed where anything may stand.
         (
             "#1=PROJECT('',#2,(#3));#2=WORKPLAN('',(),$,$);#3=WORKPIECE('',$,$,$,$,#4);#4=BLOCK('',#5,1.,1.,1.);",
-            "instance 4 has parameter 2 that names nothing",
+            RefFault::Dangling(4, 2),
         ),
         // Cycles: the least number on one, which the way there need not pass first.
         (
             "#1=PROJECT('',#2,());#2=WORKPLAN('',(#2),$,$);",
-            "instance 2 leads back to itself",
+            RefFault::Cycle(2),
         ),
         (
             "#1=PROJECT('',#2,());#2=WORKPLAN('',(#7),$,$);#7=WORKPLAN('',(#5),$,$);#5=WORKPLAN('',(#7),$,$);",
-            "instance 5 leads back to itself",
+            RefFault::Cycle(5),
         ),
         (
             "#1=PROJECT('',#2,());#2=WORKPLAN('',(#4,#8),$,$);#4=WORKPLAN('',(#8),$,$);#8=WORKPLAN('',(#6,#8),$,$);#6=WORKPLAN('',(#9),$,$);#9=WORKPLAN('',(#6),$,$);",
-            "instance 6 leads back to itself",
+            RefFault::Cycle(6),
         ),
         (
             "#1=PROJECT('',#9,());#9=WORKPLAN('',(#8,#3),$,$);#8=WORKPLAN('',(#9),$,$);#3=WORKPLAN('',(),$,$);",
-            "instance 8 leads back to itself",
+            RefFault::Cycle(8),
         ),
         // Any other fault goes before a cycle.
         (
             "#1=PROJECT('',#2,());#2=WORKPLAN('',(#2,#3),$,$);#3=WORKPLAN('',(#4),$,$);",
-            "instance 3 has parameter 2 that names nothing",
+            RefFault::Dangling(3, 2),
         ),
     ];
     for (instances, fault) in rows {
         match verdict(rt.alloc(), instances)? {
             Ok(_) => return Err(Fail::from("a sound model")),
-            Err(told) => assert_eq!(rt; told.as_str(), fault),
+            Err(told) => assert_eq!(rt; told, fault),
         }
     }
     Ok(())
@@ -121,12 +116,12 @@ fn part_with_one_hole(rt: HostRuntime) -> Result<(), Fail> {
         (
             "#7=PLANE('security',#12);",
             "",
-            Some("instance 23 has parameter 1 that names nothing"),
+            Some(RefFault::Dangling(23, 1)),
         ),
         (
             "#7=PLANE('security',#19);",
             "#25=MILLING_TOOL_DIMENSION(8.,$,$,20.,0.,$,$);",
-            Some("instance 7 has parameter 2 that names instance 19 of a wrong kind"),
+            Some(RefFault::WrongKind(7, 2, 19)),
         ),
         (
             "#7=PLANE('security',#12);",
@@ -140,11 +135,14 @@ fn part_with_one_hole(rt: HostRuntime) -> Result<(), Fail> {
             Ok(checked) => {
                 assert_eq!(rt; fault, None);
                 assert_eq!(rt; checked.project(), 1);
+                let project = checked.fields(checked.project());
+                assert_eq!(rt; project.row, RowId::Project);
+                assert!(rt; matches!(project.values.get(0), Some(Value::One(2))));
                 assert!(rt; checked.names_block(6));
                 assert!(rt; !checked.names_block(7));
                 assert!(rt; !checked.names_block(26));
             }
-            Err(told) => assert_eq!(rt; Some(told.as_str()), fault),
+            Err(told) => assert_eq!(rt; Some(told), fault),
         }
     }
     Ok(())

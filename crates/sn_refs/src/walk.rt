@@ -4,7 +4,7 @@
 //! The instances on the way stand on a path of components: instances that lead to each other. A reference to an
 //! instance of the path closes a cycle, so the components from there on become one. A component of which each
 //! reference was followed is done, and leaves the path.
-ghost use Rattle.std.specs.Prelude.{◌≡◌, ◌+◌, ◌-◌, ◌≤◌, ◌<◌, ◌↔◌, ◌++◌, ◌∷◌, [], List, ℕ, None, Some, IsTrue, IfOk, OnOk, IfNone, IfSome, MatchOption, length, drop, nat_lt, false, slice_index, slice_get, vec_len};
+ghost use Rattle.std.specs.Prelude.{◌≡◌, ◌+◌, ◌-◌, ◌≤◌, ◌<◌, ◌↔◌, ◌∷◌, [], List, ℕ, None, Some, IsTrue, IfOk, OnOk, IfNone, IfSome, MatchOption, length, drop, nat_lt, false, slice_index, slice_get, vec_len};
 ghost use Rattle.std.specs.List.{Contains};
 ghost use Rattle.indexmap.specs.IndexMap.{index_map_len};
 ghost use Rattle.sn_model.specs.Built.{IsModel};
@@ -16,7 +16,7 @@ use crate::fault::RefFault;
 use crate::instance::{add_targets, own_fault};
 use crate::reference::references;
 use indexmap::IndexMap;
-use sn_model::Model;
+use sn_model::{Model, kept_by_row, project_has_row};
 use std::alloc::{AllocError, Global};
 
 /// A part of the path: instances that lead to each other, which stand together among the members of the path.
@@ -241,6 +241,8 @@ fn explore(alloc: Global, model: &Model) -> Result<Walk, AllocError>
     requires { IsModel model.now }
     ensures { IfOk result (λ w. IsWalk model.now None w × (w.path.items ≡ [])) }
 {
+    kept_by_row();
+    project_has_row();
     let mut walk = Walk::new(alloc);
     let mut next = Some(model.project());
     while let Some(n) = next {
@@ -255,6 +257,8 @@ pub fn first_fault(alloc: Global, model: &Model) -> Result<Option<RefFault>, All
     requires { IsModel model.now }
     ensures { IfOk result (λ r. MatchOption r (IsSound model.now × IsRanked model.now) (λ why. IsRefFault model.now why)) }
 {
+    kept_by_row();
+    project_has_row();
     let walk = explore(alloc, model)?;
     Ok(walk.verdict())
 }

@@ -13,6 +13,6 @@ loop-param-preserved c =
     let i = c.loop-param.param-index in
     let more : take (i + 1) c.args.params.now ≡ take i c.args.params.now ++ c.param-item.result ∷ [] =
     take_more c.args.params.now i c.param-item.result (omega arith) ∙ ap (λ p. take i c.args.params.now ++ p ∷ []) (sym c.param-item.is) in
-    let pushed : c.push.new.self ≡ c.loop-param.refs ++ c.in-Some.number ∷ [] = c.in-Ok.ensures in
+    let pushed : c.push.new.self ≡ c.loop-param.refs ++ c.in-Some.number ∷ [] = c.in_ok-push.ensures in
     rw (more, pushed)
     (refs_push (take i c.args.params.now) c.loop-param.refs c.param-item.result c.in-Some.number c.loop-param.invariant c.in-Some.ensures.found)

@@ -45,7 +45,7 @@ loop-read-preserved c =
     let i = c.loop-read.read-index in
     let rs = c.args.reads.now in
     let more : take (i + 1) rs ≡ take i rs ++ get_or rs i none ∷ [] = take_more rs i none (omega arith) in
-    rw (more, c.in-Ok-push.ensures.ok)
+    rw (more, c.in_ok-push-in-Ok.ensures.ok)
     (given_push c.args.entity.now (take i rs) c.loop-read.values (get_or rs i none) c.index-params-read.result c.in-Ok.value c.loop-read.invariant
     (let h = place_at 0 (length c.args.entity.now.params) rs i none c.requires (omega arith) in
     read_at c.args.entity.now.params c.as_slice-params.result.now _ c.index-params-read.result c.as_slice-params.ensures

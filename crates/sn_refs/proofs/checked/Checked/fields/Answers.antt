@@ -4,6 +4,7 @@ use Rattle.sn_entity.specs.declared.value.Fields.{Fields}
 use Rattle.sn_model.specs.declared.model.Entry.TheVariants.{Typed}
 use Rattle.sn_model.specs.ModelContent.{ModelContent, entry_of}
 use Rattle.sn_refs.specs.Reference.{IsReached, fields_from}
+use Rattle.sn_refs.proofs.ModelLemmas.{shown_is_of_its_row}
 use Rattle.sn_refs.proofs.checked.Checked.fields.Goals as goal
 
 pub unreachable-requires : goal.unreachable-requires
@@ -13,3 +14,9 @@ unreachable-requires c =
     let typed : (f : Fields) × (entry_of c.args.n c.self.inside.model ≡ Some (Typed f)) = s.shown c.args.n reached in
     let given : fields_from (entry_of c.args.n c.self.inside.model) ≡ Some typed.0 = ap fields_from typed.1 in
     cc (c.in-None.ensures))
+
+pub returns-clause-row : goal.returns-clause-row
+returns-clause-row c = (shown_is_of_its_row c.self.inside.model c.args.self.now c.args.n c.in-Some.fields.now c.kept_by_row.ensures c.self.invariant.model c.self.view_is c.in-Some.ensures).0
+
+pub returns-clause-shape : goal.returns-clause-shape
+returns-clause-shape c = (shown_is_of_its_row c.self.inside.model c.args.self.now c.args.n c.in-Some.fields.now c.kept_by_row.ensures c.self.invariant.model c.self.view_is c.in-Some.ensures).1
