@@ -1,0 +1,15 @@
+pub mod Alike
+pub mod Around
+pub mod Corners
+pub mod Counting
+pub mod Crossing
+pub mod FirstOfKind
+pub mod IntTests
+pub mod JobLaws
+pub mod JobParts
+pub mod Moving
+pub mod Numbering
+pub mod Parity
+pub mod Paths
+pub mod Shapes
+pub mod Sides

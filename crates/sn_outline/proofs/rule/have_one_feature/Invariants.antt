@@ -1,0 +1,6 @@
+use Rattle.std.specs.List.{AllWithin}
+use Rattle.sn_outline.proofs.FirstOfKind.{IsFeatureOfFirst}
+use Rattle.sn_outline.proofs.rule.have_one_feature.Given as goal
+
+abbrev pub invariant-loop-step : goal.invariant-loop-step
+invariant-loop-step l = AllWithin (IsFeatureOfFirst l.steps) l.steps 0 l.step-index

@@ -1,0 +1,7 @@
+pub mod Job
+pub mod JobRule
+pub mod JobRuleLaws
+pub mod Outline
+pub mod OutlineLaws
+pub mod Polygon
+pub mod PolygonLaws
