@@ -1,0 +1,10 @@
+pub mod Blocks
+pub mod Comments
+pub mod Digits
+pub mod FirstKind
+pub mod Percent
+pub mod Reading
+pub mod Room
+pub mod Runs
+pub mod WordSteps
+pub mod Words

@@ -1,0 +1,2 @@
+pub mod CountingLines
+pub mod SteppingLines

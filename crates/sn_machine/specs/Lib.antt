@@ -1,0 +1,3 @@
+pub mod LineActs
+pub mod StateParts
+pub mod StepLaws
