@@ -1,0 +1,12 @@
+pub mod Axis
+pub mod GridParts
+pub mod HeightMaps
+pub mod HeightPasses
+pub mod HeightCuts
+pub mod HeightFirsts
+pub mod HeightRows
+pub mod Margins
+pub mod Marks
+pub mod Planes
+pub mod Rows
+pub mod Windows

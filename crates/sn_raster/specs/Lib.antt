@@ -1,0 +1,6 @@
+pub mod Grid
+pub mod GridLaws
+pub mod HeightLaws
+pub mod Heights
+pub mod Plane
+pub mod PlaneLaws

@@ -1,0 +1,115 @@
+//! Planes of nodes.
+ghost use Rattle.std.specs.Prelude.{◌≡◌, ℕ, ◌*◌, ◌<◌, ◌↔◌, ◌&&◌, false, length, slice_index_or, IsTrue, IfOk};
+ghost use Rattle.sn_raster.specs.Grid.{Node, IsInWindow, places};
+ghost use Rattle.sn_raster.specs.Plane.{Has, IsEmpty, mark_of};
+
+use crate::grid::Grid;
+use crate::places::Places;
+use sn_geom::Memory;
+use std::alloc::Global;
+use std::marker::Model;
+
+/// A set of nodes of the window of a grid.
+#[derive(Drop)]
+pub struct Bits {
+    grid: Grid,
+    marks: Vec<bool>,
+}
+
+impl Model for Bits {
+    ghost use Rattle.sn_raster.specs.Plane.{Plane, IsPlane};
+
+    ghost Value = { Plane };
+
+    ghost view = { λ bits. record { grid = bits.grid; marks = bits.marks.items } };
+
+    ghost invariant = { λ bits. IsPlane (record { grid = bits.grid; marks = bits.marks.items }) };
+}
+
+impl Bits {
+    /// The plane without nodes over a grid.
+    pub fn new(alloc: Global, g: &Grid) -> Result<Bits, Memory>
+        ensures { IfOk result (λ plane. (plane.grid ≡ g.now) × IsEmpty plane) }
+    {
+        let grid = *g;
+        grid.rule();
+        let marks = vec![in alloc; false; nodes_of(&grid)]?;
+        Ok(Bits { grid, marks })
+    }
+
+    /// The grid of the plane.
+    pub fn grid(&self) -> Grid
+        ensures { result ≡ self.now.grid }
+    {
+        self.grid
+    }
+
+    /// Whether the node in column `i` and row `j` is in the plane.
+    pub fn get(&self, i: i32, j: i32) -> bool
+        requires { IsInWindow self.now.grid (record { i = i; j = j }) }
+        ensures { IsTrue result ↔ Has self.now (record { i = i; j = j }) }
+    {
+        self.marks[mark(&self.grid, i, j)]
+    }
+
+    /// Puts the node in column `i` and row `j` in where `on` is true, and takes it out where it is false.
+    pub fn set(&mut self, i: i32, j: i32, on: bool)
+        requires { IsInWindow self.old.grid (record { i = i; j = j }) }
+        ensures grid { self.new.grid ≡ self.old.grid }
+        ensures node { Has self.new (record { i = i; j = j }) ↔ IsTrue on }
+        ensures others { (n : Node) → ¬ (n ≡ record { i = i; j = j }) → Has self.new n ↔ Has self.old n }
+    {
+        let at = mark(&self.grid, i, j);
+        self.marks[at] = on;
+    }
+
+    /// Makes it the plane of the nodes that are in `a` and in `b`.
+    pub fn both(&mut self, a: &Bits, b: &Bits)
+        requires first { a.now.grid ≡ self.old.grid }
+        requires second { b.now.grid ≡ self.old.grid }
+        ensures grid { self.new.grid ≡ self.old.grid }
+        ensures nodes { (n : Node) → Has self.new n ↔ (Has a.now n × Has b.now n) }
+    {
+        common(&mut self.marks, &a.marks, &b.marks);
+    }
+}
+
+/// How many nodes the window has.
+pub(crate) fn nodes_of(g: &Grid) -> usize
+    ensures { result ≡ places g.now.i0 g.now.i1 * places g.now.j0 g.now.j1 }
+{
+    let columns = Places {
+        first: g.i0,
+        last: g.i1,
+    };
+    let rows = Places {
+        first: g.j0,
+        last: g.j1,
+    };
+    columns.count() as usize * rows.count() as usize
+}
+
+/// Which mark is that of the node in column `i` and row `j`.
+pub(crate) fn mark(g: &Grid, i: i32, j: i32) -> usize
+    requires { IsInWindow g.now (record { i = i; j = j }) }
+    ensures value { result ≡ mark_of g.now (record { i = i; j = j }) }
+    ensures size { result < places g.now.i0 g.now.i1 * places g.now.j0 g.now.j1 }
+{
+    let columns = Places {
+        first: g.i0,
+        last: g.i1,
+    };
+    j.abs_diff(g.j0) as usize * columns.count() as usize + i.abs_diff(g.i0) as usize
+}
+
+/// Sets each mark to whether both others are set.
+fn common(marks: &mut [bool], a: &[bool], b: &[bool])
+    requires first { length a.now ≡ length marks.old }
+    requires second { length b.now ≡ length marks.old }
+    ensures { (k : ℕ) → k < length marks.old
+        → slice_index_or marks.new k false ≡ slice_index_or a.now k false && slice_index_or b.now k false }
+{
+    for k in 0..marks.len() {
+        marks[k] = a[k] && b[k];
+    }
+}

@@ -1,0 +1,13 @@
+//! Laws of the material that is left after passes.
+ghost use Rattle.sn_raster.specs.HeightLaws.{CutStaysCut, OrderDoesNotMatter, UntouchedIsLeft};
+
+use sn_geom::laws::touching;
+
+/// Laws of material.
+pub fn materials()
+    ensures stays { CutStaysCut }
+    ensures order { OrderDoesNotMatter }
+    ensures untouched { UntouchedIsLeft }
+{
+    touching();
+}

@@ -1,0 +1,20 @@
+//! Grids of jobs, and planes of nodes over them.
+//!
+//! Lengths are whole micrometres.
+#![tactic(auto)]
+
+mod bits;
+mod fill;
+mod grid;
+pub mod height_laws;
+mod heights;
+pub mod laws;
+mod places;
+
+pub use bits::Bits;
+pub use fill::fill_row;
+pub use grid::{Big, Grid};
+pub use heights::Heights;
+
+#[cfg(test)]
+mod tests;
