@@ -1,3 +1,10 @@
+pub mod CommentReadings
 pub mod Digits
+pub mod FormLines
+pub mod FormReadings
+pub mod ItemReadings
+pub mod NumberWords
+pub mod PartLines
 pub mod Pieces
 pub mod ShownLengths
+pub mod WordReadings

@@ -24,7 +24,7 @@ last_digits-AllDigits (suc places) n =
     let below : n % 10 < 10 = omega arith in
     digits_push 10 (last_digits places (n / 10)) (48 + n % 10) (last_digits-AllDigits places (n / 10)) (rw (digit_value-digit (n % 10) below) below)
 
-length-last_digits : (places n : ℕ) → length (last_digits places n) ≡ places
+pub length-last_digits : (places n : ℕ) → length (last_digits places n) ≡ places
 length-last_digits zero n = refl
 length-last_digits (suc places) n = omega (arith, length-append (last_digits places (n / 10)) ((48 + n % 10) ∷ []), length-last_digits places (n / 10))
 
@@ -90,7 +90,7 @@ shown_digits text z shows =
       append-nil,
     ))
 
-is_negative-pos : (n : ℕ) → is_negative (pos n) ≡ false
+pub is_negative-pos : (n : ℕ) → is_negative (pos n) ≡ false
 is_negative-pos n = grind (arith, nat_tests)
 
 same_length : (y z : ℤ) → unsigned_abs y ≡ unsigned_abs z → is_negative y ≡ is_negative z → y ≡ z

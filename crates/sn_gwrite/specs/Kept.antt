@@ -1,12 +1,14 @@
 -- What an emitter keeps of the program that it writes, and what a call may follow (this project's own).
 use Rattle.std.specs.Prelude.{ℕ, ◌≡◌, ◌≢◌, ◌≤◌, ◌⊎◌, Option, None, Some, IsSome}
+use Rattle.sn_geom.specs.declared.limits.TheConstants.{MOST_RATE, MOST_TOOL}
 use Rattle.sn_geom.specs.declared.units.Pt3.{Pt3}
+use Rattle.sn_geom.specs.Tip.{tip_after}
 use Rattle.sn_gwrite.specs.declared.kept.Stage.{Stage}
 use Rattle.sn_gwrite.specs.declared.kept.Stage.TheVariants.{Unused, Begun, Ended, Failed}
 use Rattle.sn_gwrite.specs.declared.kept.Spindle.{Spindle}
 use Rattle.sn_gwrite.specs.declared.kept.Spindle.TheVariants.{Stopped, Turning}
-use Rattle.sn_gwrite.specs.declared.kept.Tip.{Tip}
-use Rattle.sn_gwrite.specs.declared.kept.Tip.TheVariants.{Unknown, Height, At}
+use Rattle.sn_geom.specs.declared.tip.Tip.{Tip}
+use Rattle.sn_geom.specs.declared.tip.Tip.TheVariants.{Unknown, Height, At}
 
 -- stage: which calls came; tool: the number of the tool in the spindle, in rev/min its speed and in mm/min its feed, each
 -- where one was written; spindle: whether it turns, as it does where rates came since the last tool change; tip: how much
@@ -35,12 +37,6 @@ with_tool kept tool = record kept { tool = Some tool; spindle = Stopped; tip = U
 abbrev pub with_rates : Kept → ℕ → ℕ → Kept
 with_rates kept speed feed = record kept { speed = Some speed; feed = Some feed; spindle = Turning }
 
--- the tip after a motion to the point: of the first after a tool change the height alone is known
-abbrev pub tip_after : Tip → Pt3 → Tip
-tip_after Unknown point = Height point.z
-tip_after (Height z) point = At point
-tip_after (At before) point = At point
-
 -- after a motion to the point
 abbrev pub moved : Kept → Pt3 → Kept
 moved kept point = record kept { tip = tip_after kept.tip point }
@@ -66,11 +62,11 @@ abbrev pub IsTurning : Kept → Type 0
 IsTurning kept = kept.spindle ≡ Turning
 
 abbrev pub IsToolNumber : ℕ → Type 0
-IsToolNumber k = (1 ≤ k) × (k ≤ 99999)
+IsToolNumber k = (1 ≤ k) × (k ≤ MOST_TOOL)
 
 -- a speed in rev/min or a feed in mm/min
 abbrev pub IsRate : ℕ → Type 0
-IsRate rate = (1 ≤ rate) × (rate ≤ 100000)
+IsRate rate = (1 ≤ rate) × (rate ≤ MOST_RATE)
 
 -- a motion that is not slanted, and ends at another point than it starts from
 pub record IsStraight (from to : Pt3) : Type 0 where

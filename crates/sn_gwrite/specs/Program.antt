@@ -2,10 +2,10 @@
 use Rattle.std.specs.Prelude.{ℕ, ◌+◌, List, [], ◌∷◌, ◌++◌, codes, decimal, if◌then◌else◌}
 use Rattle.std.specs.Ordering.{int_eq}
 use Rattle.sn_geom.specs.declared.units.Pt3.{Pt3}
-use Rattle.sn_gwrite.specs.declared.kept.MotionMode.{MotionMode}
-use Rattle.sn_gwrite.specs.declared.kept.MotionMode.TheVariants.{Rapid, Feed}
-use Rattle.sn_gwrite.specs.declared.kept.Tip.{Tip}
-use Rattle.sn_gwrite.specs.declared.kept.Tip.TheVariants.{Unknown, Height, At}
+use Rattle.sn_geom.specs.declared.tip.MotionMode.{MotionMode}
+use Rattle.sn_geom.specs.declared.tip.MotionMode.TheVariants.{Rapid, Feed}
+use Rattle.sn_geom.specs.declared.tip.Tip.{Tip}
+use Rattle.sn_geom.specs.declared.tip.Tip.TheVariants.{Unknown, Height, At}
 use Rattle.sn_gwrite.specs.Length.{length_text}
 
 -- a tool's number, and the number of its instance in the part

@@ -4,9 +4,9 @@ ghost use Rattle.sn_io.specs.Sink.{Writes};
 ghost use Rattle.sn_gwrite.specs.Program.{head_text, mark_text, change_text, rates_text, motion_text, end_text};
 ghost use Rattle.sn_gwrite.specs.Kept.{IsBegun, HasTool, IsTurning, IsToolNumber, IsRate, MayRapid, MayFeed, unused, begun, with_tool, with_rates, moved, ended, failed};
 
-use crate::kept::{MotionMode, Spindle, Stage, Tip};
+use crate::kept::{Spindle, Stage};
 use crate::parts::{write_change, write_end, write_head, write_mark, write_motion, write_rates};
-use sn_geom::Pt3;
+use sn_geom::{MotionMode, Pt3, Tip};
 use sn_io::{Sink, WriteFault};
 use std::marker::Model;
 

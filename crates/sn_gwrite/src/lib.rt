@@ -11,8 +11,11 @@ mod parts;
 mod text;
 
 pub use emitter::Emitter;
-pub use kept::{MotionMode, Spindle, Stage, Tip};
-pub use laws::{length_text_shows_length, text_shows_one_length};
+pub use kept::{Spindle, Stage};
+pub use laws::{
+    forms_are_read, forms_text_is_lines, length_text_shows_length, parts_are_forms,
+    text_shows_one_length,
+};
 
 #[cfg(test)]
 mod tests;

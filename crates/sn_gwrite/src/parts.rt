@@ -1,11 +1,10 @@
 //! The parts of a program's text.
 ghost use Rattle.std.specs.Prelude.{◌≡◌};
 ghost use Rattle.sn_io.specs.Sink.{Writes};
-ghost use Rattle.sn_gwrite.specs.Program.{head_text, tools_text, tool_text, mark_text, change_text, rates_text, motion_text, end_text};
+ghost use Rattle.sn_gwrite.specs.Program.{head_text, tools_text, tool_text, mark_text, change_text, rates_text, motion_text, mode_text, end_text};
 
-use crate::kept::{MotionMode, Tip};
 use crate::text::Text;
-use sn_geom::Pt3;
+use sn_geom::{MotionMode, Pt3, Tip};
 use sn_io::{Sink, WriteFault, write_all};
 
 /// Writes the percent line, the modes and the tools.
@@ -90,10 +89,20 @@ pub fn write_motion<S: Sink>(
     ensures { Writes result (S.state sink.old) (S.state sink.new) (motion_text mode tip to.now) }
 {
     let mut text = Text::new();
-    text.push_str(mode.word());
+    text.push_str(mode_word(mode));
     text.push_axes(tip, to);
     text.push_str("\n");
     text.write_to(sink)
+}
+
+/// The word of a mode.
+fn mode_word(mode: MotionMode) -> &'static str
+    ensures { result.now ≡ mode_text mode }
+{
+    match mode {
+        MotionMode::Rapid => "G0",
+        MotionMode::Feed => "G1",
+    }
 }
 
 /// Writes the end of the program.

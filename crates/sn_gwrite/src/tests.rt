@@ -3,7 +3,10 @@ ghost use Rattle.std.specs.Prelude.{◌≡◌, None, IfSome};
 ghost use Rattle.sn_gwrite.specs.Kept.{IsStraight};
 
 use crate::text::Text;
-use crate::{Emitter, length_text_shows_length, text_shows_one_length};
+use crate::{
+    Emitter, forms_are_read, forms_text_is_lines, length_text_shows_length, parts_are_forms,
+    text_shows_one_length,
+};
 use sn_geom::{Pt3, Um};
 use sn_io::{Failed, Sink, WriteFault};
 use std::alloc::Global;
@@ -150,6 +153,9 @@ fn writes_a_cut(rt: HostRuntime) -> Result<(), Fail> {
 
 #[test]
 fn prints_lengths(rt: HostRuntime) -> Result<(), Fail> {
+    forms_are_read();
+    forms_text_is_lines();
+    parts_are_forms();
     length_text_shows_length();
     text_shows_one_length();
     for (um, text) in [

@@ -6,10 +6,9 @@ ghost use Rattle.sn_io.specs.Sink.{Writes};
 ghost use Rattle.sn_gwrite.specs.Length.{last_digits, length_text};
 ghost use Rattle.sn_gwrite.specs.Program.{axes_text, plan_text, height_text};
 
-use crate::kept::Tip;
 use arrayvec::ArrayString;
 use itoa::Buffer;
-use sn_geom::{DECIMALS, PER_MM, Pt3, Um};
+use sn_geom::{DECIMALS, PER_MM, Pt3, Tip, Um};
 use sn_io::{Sink, WriteFault, write_all};
 use std::marker::Model;
 

@@ -1,6 +1,6 @@
 use Rattle.std.proofs.Common.{refl}
 use Rattle.sn_gwrite.specs.Program.{head_text}
-use Rattle.sn_gwrite.proofs.Pieces.{writes-first, writes-later}
+use Rattle.sn_io.proofs.SinkLemmas.{writes-first, writes-later}
 use Rattle.sn_gwrite.proofs.parts.write_head.Goals as goal
 
 -- src/parts.rt:16:5

@@ -1,7 +1,7 @@
 use Rattle.std.proofs.Common.{ℕ, List, ◌≡◌, ◌+◌, ◌<◌, ◌≤◌, ◌++◌, [], length, drop, get_or, refl, sym, ap, ◌∙◌, add-one, append_assoc, append-nil, drop-cons, drop_of_length-le}
 use Rattle.sn_io.proofs.SinkLemmas.{takes-more}
 use Rattle.sn_gwrite.specs.Program.{tools_text, tool_text}
-use Rattle.sn_gwrite.proofs.Pieces.{writes-later, writes-first}
+use Rattle.sn_io.proofs.SinkLemmas.{writes-later, writes-first}
 use Rattle.sn_gwrite.proofs.parts.write_tools.Goals as goal
 
 next_tool : (tools : List ℕ) (i : ℕ) → i < length tools
