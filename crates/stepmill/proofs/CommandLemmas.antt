@@ -1,18 +1,21 @@
 -- Where words that are no command depart from one.
-use Rattle.std.proofs.Common.{ℕ, ◌≡◌, ◌≢◌, ◌+◌, ◌-◌, ◌≤◌, ◌<◌, List, [], ◌∷◌, ◌++◌, length, take, codes, Some, refl, sym, ap, ◌∙◌, subst, arith, length-append, lit≤, lit<}
+use Rattle.std.proofs.Common.{ℕ, ◌≡◌, ◌≢◌, ◌+◌, ◌-◌, ◌*◌, ◌/◌, ◌≤◌, ◌<◌, List, [], ◌∷◌, ◌++◌, length, take, codes, Some, refl, sym, ap, ◌∙◌, subst, arith, length-append, lit≤, lit<}
 use Rattle.std.proofs.lemmas.List.{take_all}
 use Rattle.std.proofs.lemmas.Fmt.{decimal_is_IsNumeral}
 use Rattle.std.proofs.Math.Seq.{take-append_seam, take-append-add}
 use Rattle.std.specs.Prelude.{slice_get, decimal}
-use Rattle.stepmill.specs.Command.{IsCommand, IsFileWord, IsPitchWord, IsAccepted, BeginsCommand, DepartsAt, least_pitch}
+use Rattle.stepmill.specs.Command.{IsCommand, IsFileWord, IsPitchWord, IsAccepted, BeginsCommand, DepartsAt}
+use Rattle.sn_geom.specs.declared.limits.TheConstants.{LEAST_PITCH, PER_MM}
 
 -- the least pitch, in digits
 sample : List ℕ
-sample = decimal least_pitch
+sample = decimal (LEAST_PITCH / (PER_MM / 1000))
 
-sample-pitch : IsPitchWord sample least_pitch
+sample-pitch : IsPitchWord sample LEAST_PITCH
 unfolding sample
-sample-pitch = let h = decimal_is_IsNumeral least_pitch (lit< tt) in record { digits = h.0; value = h.1; within = record { least = lit≤ tt; greatest = lit≤ tt } }
+sample-pitch =
+    let h = decimal_is_IsNumeral (LEAST_PITCH / (PER_MM / 1000)) (lit< tt) in
+    record { digits = h.0; value = ap (λ n. n * (PER_MM / 1000)) h.1; within = record { at_least = lit≤ tt; at_most = lit≤ tt } }
 
 accepted : (part number : List ℕ) (pitch : ℕ) → IsFileWord part → IsPitchWord number pitch
     → IsAccepted (codes "compile" ∷ part ∷ codes "--cell" ∷ number ∷ [])
@@ -46,17 +49,17 @@ file = 120 ∷ []
 
 begins-0 : BeginsCommand []
 unfolding file
-begins-0 = (_, accepted file sample least_pitch (λ e. cc) sample-pitch)
+begins-0 = (_, accepted file sample LEAST_PITCH (λ e. cc) sample-pitch)
 
 begins-1 : BeginsCommand (codes "compile" ∷ [])
 unfolding file
-begins-1 = (file ∷ codes "--cell" ∷ sample ∷ [], accepted file sample least_pitch (λ e. cc) sample-pitch)
+begins-1 = (file ∷ codes "--cell" ∷ sample ∷ [], accepted file sample LEAST_PITCH (λ e. cc) sample-pitch)
 
 begins-2 : (part : List ℕ) → IsFileWord part → BeginsCommand (codes "compile" ∷ part ∷ [])
-begins-2 part is_file = (codes "--cell" ∷ sample ∷ [], accepted part sample least_pitch is_file sample-pitch)
+begins-2 part is_file = (codes "--cell" ∷ sample ∷ [], accepted part sample LEAST_PITCH is_file sample-pitch)
 
 begins-3 : (part : List ℕ) → IsFileWord part → BeginsCommand (codes "compile" ∷ part ∷ codes "--cell" ∷ [])
-begins-3 part is_file = (sample ∷ [], accepted part sample least_pitch is_file sample-pitch)
+begins-3 part is_file = (sample ∷ [], accepted part sample LEAST_PITCH is_file sample-pitch)
 
 begins-4 : (part number : List ℕ) (pitch : ℕ) → IsFileWord part → IsPitchWord number pitch
     → BeginsCommand (codes "compile" ∷ part ∷ codes "--cell" ∷ number ∷ [])

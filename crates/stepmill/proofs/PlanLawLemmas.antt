@@ -1,26 +1,25 @@
--- The laws of the plan of a step, of the acts of lines, and of lines with great numbers.
-use Rattle.std.proofs.Common.{ℕ, ◌≡◌, ◌≢◌, Option, ◌<◌, ◌⊎◌, inl, inr, ⊎_elim, None, Some, List, [], ◌∷◌, ◌++◌, ℤ, pos, ◌+ℤ◌, ◌≤ℤ◌, ◌<ℤ◌, refl, sym, ap, subst, ◌∙◌, arith, lit<}
-use Rattle.std.specs.Prelude.{codes, decimal}
-use Rattle.std.proofs.lemmas.Fmt.{decimal_injective}
+-- The laws of plans.
+use Rattle.std.proofs.Common.{ℕ, ◌≡◌, ◌≢◌, Option, ◌⊎◌, inl, inr, ⊎_elim, None, Some, List, [], ◌∷◌, ◌++◌, map, ℤ, pos, ◌+ℤ◌, ◌≤ℤ◌, ◌<ℤ◌, refl, sym, ap, subst, ◌∙◌, arith}
 use Rattle.std.proofs.lemmas.Int.{by_lt_z}
 use Rattle.sn_geom.proofs.Ring.{sums}
-use Rattle.sn_geom.specs.declared.units.Body.{Body}
 use Rattle.sn_geom.specs.declared.units.Cell.{Cell}
 use Rattle.sn_geom.specs.declared.units.Pt.{Pt}
-use Rattle.sn_geom.specs.declared.units.Pt3.{Pt3}
-use Rattle.stepmill.specs.Job.{Job, Step, tip_floor}
-use Rattle.stepmill.specs.Region.{Node, node_of, InAllowed, IsOpening}
-use Rattle.stepmill.specs.Material.{Cutting, Cuttings, IsMaterial}
-use Rattle.stepmill.specs.Plan.{Move, end_of, plunge, made, IsDrillPlan, IsFedBy, ArePlans, tip_after}
-use Rattle.stepmill.specs.Plan.Move.{RapidTo, FeedTo}
-use Rattle.stepmill.specs.Machine.{State, Block, Act, acts_of, state_after, Runs}
-use Rattle.stepmill.specs.MachineLaws.{LinesHaveOneMeaning}
-use Rattle.stepmill.specs.Good.{IsFed}
-use Rattle.stepmill.specs.PlanLaws.{OnlyFeedsOfMovesCut, OneHighest, OneDrillPlan, NothingToCutNoMoves, RepeatedStepsRest, StepsBeginAtTheTip, PlungesFrom, drill, with_other_tool, GreatFeedsSayNothing}
-use Rattle.stepmill.specs.Line.{Form, IsProper, form_text}
-use Rattle.stepmill.specs.Line.Form.{PercentSign, AllModes, ToolNote, StepMark, ToolChange, LengthOffset, SpindleSpeed, FeedRate, HeightMotion, PlaneMotion, ProgramEnd}
-use Rattle.sn_gwrite.specs.declared.kept.MotionMode.TheVariants.{Rapid, Feed}
-use Rattle.std.specs.Fmt.{digits}
+use Rattle.sn_outline.specs.Job.{Job, tip_floor}
+use Rattle.sn_outline.specs.declared.job.StepJob.{StepJob}
+use Rattle.sn_outline.specs.declared.job.Way.{Way}
+use Rattle.sn_outline.specs.declared.job.Way.TheVariants as way
+use Rattle.sn_outline.specs.declared.outline.Shape.{Shape}
+use Rattle.sn_outline.specs.declared.outline.Shape.TheVariants.{Rect, Circle, Polygon, Trail}
+use Rattle.stepmill.specs.Examples.{drill, with_other_tool}
+use Rattle.stepmill.specs.Grid.{node_of}
+use Rattle.stepmill.specs.Region.{InAllowed}
+use Rattle.stepmill.specs.Material.{Pass, IsMaterial}
+use Rattle.sn_geom.specs.declared.tip.Tip.{Tip}
+use Rattle.sn_geom.specs.declared.tip.Tip.TheVariants.{Unknown, Height}
+use Rattle.stepmill.specs.declared.moves.Move.{Move}
+use Rattle.stepmill.specs.Moves.{plunge, made, tip_for, tip_after_moves}
+use Rattle.stepmill.specs.Plan.{IsIdle, IsBusy, IsDrillPlan, IsPlanBy, IsStepPlan, ArePlans, passes_by}
+use Rattle.stepmill.specs.PlanLaws.{OneHighest, OnePlan, NothingToCutNoMoves, RepeatedStepsRest, StepsBeginAtTheTip, PlungesFrom}
 
 -- Heights.
 
@@ -32,52 +31,76 @@ same_top : (y z a b : ℤ) → a ≡ y +ℤ pos 1 → b ≡ z +ℤ pos 1 → y <
 same_top y z a b e f h k = omega (arith, sums)
 
 -- where material ends: at the raw bottom, or over a cell
-abbrev EndsAt : Job → Step → Cuttings → ℤ → Type 0
-EndsAt job step ways above = (above ≡ job.low.z) ⊎ ((c : Cell) × IsMaterial job ways c × InAllowed job step (node_of c) × (above ≡ c.z +ℤ pos 1))
+abbrev EndsAt : Job → StepJob → List Pass → ℤ → Type 0
+EndsAt job step passes above = (above ≡ job.low.z) ⊎ ((c : Cell) × IsMaterial job passes c × InAllowed job step (node_of c) × (above ≡ c.z +ℤ pos 1))
 
-abbrev IsUnder : Job → Step → Cuttings → ℤ → Type 0
-IsUnder job step ways above = (c : Cell) → IsMaterial job ways c → InAllowed job step (node_of c) → c.z <ℤ above
+abbrev IsUnder : Job → StepJob → List Pass → ℤ → Type 0
+IsUnder job step passes above = (c : Cell) → IsMaterial job passes c → InAllowed job step (node_of c) → c.z <ℤ above
 
-same_end : (job : Job) (step : Step) (ways : Cuttings) (a b : ℤ) → IsUnder job step ways a → IsUnder job step ways b
-    → EndsAt job step ways a → EndsAt job step ways b → a ≡ b
-same_end job step ways a b under_a under_b (inl e) (inl f) = e ∙ sym f
-same_end job step ways a b under_a under_b (inl e) (inr (c, left, allowed, f)) = absurd (over_low job.low.z a c.z e left.raw.above (under_a c left allowed))
-same_end job step ways a b under_a under_b (inr (c, left, allowed, e)) (inl f) = absurd (over_low job.low.z b c.z f left.raw.above (under_b c left allowed))
-same_end job step ways a b under_a under_b (inr (c, left, allowed, e)) (inr (d, left', allowed', f)) =
+same_end : (job : Job) (step : StepJob) (passes : List Pass) (a b : ℤ) → IsUnder job step passes a → IsUnder job step passes b
+    → EndsAt job step passes a → EndsAt job step passes b → a ≡ b
+same_end job step passes a b under_a under_b (inl e) (inl f) = e ∙ sym f
+same_end job step passes a b under_a under_b (inl e) (inr (c, left, allowed, f)) = absurd (over_low job.low.z a c.z e left.raw.above (under_a c left allowed))
+same_end job step passes a b under_a under_b (inr (c, left, allowed, e)) (inl f) = absurd (over_low job.low.z b c.z f left.raw.above (under_b c left allowed))
+same_end job step passes a b under_a under_b (inr (c, left, allowed, e)) (inr (d, left', allowed', f)) =
     same_top c.z d.z a b e f (under_b c left allowed) (under_a d left' allowed')
 
 pub one_highest : OneHighest
-one_highest job step acts a b p q = same_end job step (IsFed job acts) a b p.bounds q.bounds p.reached q.reached
+one_highest job step passes a b p q = same_end job step passes a b p.bounds q.bounds p.reached q.reached
 
-lower_too : (floor a b : ℤ) → a ≡ b → a ≤ℤ floor → b ≤ℤ floor
-lower_too floor a b e h = omega (arith, sums)
+-- Plans.
 
-higher_too : (floor a b : ℤ) → a ≡ b → floor <ℤ a → floor <ℤ b
-higher_too floor a b e h = omega (arith, sums)
+lower_too : (floor a b : ℤ) → a ≡ b → a ≤ℤ floor → floor <ℤ b → ⊥
+lower_too floor a b e h k = omega (arith, sums)
 
-pub one_drill_plan : OneDrillPlan
-one_drill_plan job step centre acts tip n some others opened p q =
-    let same = one_highest job step acts p.above q.above p.highest q.highest in
-    by_lt_z (tip_floor step) p.above
-    (λ high.
-    p.some high n opened
-    ∙ ap (λ z. made tip (plunge job step centre z)) same
-    ∙ sym (q.some (higher_too (tip_floor step) p.above q.above same high) n opened))
-    (λ low. p.none (inl low) ∙ sym (q.none (inl (lower_too (tip_floor step) p.above q.above same low))))
+-- a step that is idle has nothing to do, wherever its height comes from
+not_both : (job : Job) (step : StepJob) (a b : ℤ) → a ≡ b → IsIdle job step a → IsBusy job step b → ⊥
+not_both job step a b same (inl low) busy = lower_too (tip_floor step) a b same low busy.high
+not_both job step a b same (inr shut) busy = shut busy.node busy.opened
 
-not_over : (floor low above : ℤ) → above ≡ low → low ≤ℤ floor → above ≤ℤ floor
-not_over floor low above e h = omega (arith, sums)
+one_drill_plan : (job : Job) (step : StepJob) (centre : Pt) (passes : List Pass) (tip : Tip) (some others : List Move)
+    → IsDrillPlan job step centre passes tip some → IsDrillPlan job step centre passes tip others → some ≡ others
+one_drill_plan job step centre passes tip some others p q =
+    let same = one_highest job step passes p.above q.above p.highest q.highest in
+    ⊎_elim
+    (λ (idle, none). ⊎_elim (λ (idle', none'). none ∙ sym none') (λ (busy, moved). absurd (not_both job step p.above q.above same idle busy)) q.moves_are)
+    (λ (busy, moved).
+    ⊎_elim (λ (idle, none). absurd (not_both job step q.above p.above (sym same) idle busy))
+    (λ (busy', moved'). moved ∙ ap (λ z. made tip (plunge job step centre z)) same ∙ sym moved') q.moves_are)
+    p.moves_are
+
+by_way : (job : Job) (step : StepJob) (passes : List Pass) (tip : Tip) (some others : List Move) (w : Way) (shape : Shape)
+    → IsPlanBy job step passes tip some w shape → IsPlanBy job step passes tip others w shape → some ≡ others
+by_way job step passes tip some others way.Clear shape p q = absurd p
+by_way job step passes tip some others way.Trail shape p q = absurd p
+by_way job step passes tip some others way.Drill (Rect low high) p q = absurd p
+by_way job step passes tip some others way.Drill (Circle centre d) p q = one_drill_plan job step centre passes tip some others p q
+by_way job step passes tip some others way.Drill (Polygon points) p q = absurd p
+by_way job step passes tip some others way.Drill (Trail points width) p q = absurd p
+
+one_step_plan : (job : Job) (step : StepJob) (passes : List Pass) (tip : Tip) (some others : List Move)
+    → IsStepPlan job step passes tip some → IsStepPlan job step passes tip others → some ≡ others
+one_step_plan job step passes tip some others p q = by_way job step passes tip some others step.way step.outline.shape p q
 
 next_not_over : (floor z above : ℤ) → above ≡ z +ℤ pos 1 → z <ℤ floor → above ≤ℤ floor
 next_not_over floor z above e h = omega (arith, sums)
 
+not_over : (floor low above : ℤ) → above ≡ low → low ≤ℤ floor → above ≤ℤ floor
+not_over floor low above e h = omega (arith, sums)
+
+-- a drilling step without moves, where it has nothing to do
+no_moves : (job : Job) (step : StepJob) (centre : Pt) (passes : List Pass) (tip : Tip) (moves : List Move)
+    → (p : IsDrillPlan job step centre passes tip moves) → IsIdle job step p.above → moves ≡ []
+no_moves job step centre passes tip moves p idle =
+    ⊎_elim (λ (idle', none). none) (λ (busy, moved). absurd (not_both job step p.above p.above refl idle busy)) p.moves_are
+
 pub nothing_to_cut_no_moves : NothingToCutNoMoves
-nothing_to_cut_no_moves job step centre acts tip moves p = (
+nothing_to_cut_no_moves job step centre passes tip moves p = (
   λ low done.
-      p.none
+      no_moves job step centre passes tip moves p
       (inl (⊎_elim (λ e. not_over (tip_floor step) job.low.z p.above e low)
       (λ (c, left, allowed, e). next_not_over (tip_floor step) c.z p.above e (done c left allowed)) p.highest.reached)),
-  λ shut. p.none (inr shut),
+  λ shut. no_moves job step centre passes tip moves p (inr shut),
 )
 
 next_not_over_unless : (floor z above : ℤ) → above ≡ z +ℤ pos 1 → (floor ≤ℤ z → ⊥) → above ≤ℤ floor
@@ -87,115 +110,71 @@ pub repeated_steps_rest : RepeatedStepsRest
 repeated_steps_rest job first some [] low plans cut = refl
 repeated_steps_rest job first some (move ∷ moves) low plans cut =
     let p = plans.1.0 in
-    p.none
+    no_moves job drill _ _ _ (move ∷ moves) p
     (inl (⊎_elim (λ e. not_over (tip_floor drill) job.low.z p.above e low)
     (λ (c, left, allowed, e). next_not_over_unless (tip_floor drill) c.z p.above e
-    (λ over. let (way, fed, by) = cut c left.raw allowed over in left.uncut way (inr fed) by)) p.highest.reached))
+    (λ over. let (pass, inside, by) = cut c left.raw allowed over in left.uncut pass inside by)) p.highest.reached))
 
-plunges : (job : Job) (step : Step) (centre : Pt) (ways : Cuttings) (tip : Option Pt3) (n : Node) (moves : List Move)
-    → moves ≢ [] → IsOpening job step n → IsDrillPlan job step centre ways tip moves → (above : ℤ) × (moves ≡ made tip (plunge job step centre above))
-plunges job step centre ways tip n moves moved opened p =
-    by_lt_z (tip_floor step) p.above (λ high. (p.above, p.some high n opened)) (λ low. absurd (moved (p.none (inl low))))
+plunges : (job : Job) (step : StepJob) (centre : Pt) (passes : List Pass) (tip : Tip) (moves : List Move)
+    → moves ≢ [] → IsDrillPlan job step centre passes tip moves → (above : ℤ) × (moves ≡ made tip (plunge job step centre above))
+plunges job step centre passes tip moves moved p = ⊎_elim (λ (idle, none). absurd (moved none)) (λ (busy, is). (p.above, is)) p.moves_are
 
-begins_after : (job : Job) (n : Node) (first : Move) (some others : List Move) → others ≢ [] → IsOpening job drill n
-    → ArePlans job (λ way. ⊥) 0 None ((drill, first ∷ some) ∷ (with_other_tool, []) ∷ (drill, others) ∷ [])
-    → PlungesFrom job drill (tip_after None (first ∷ some)) others
-begins_after job n first some [] moved opened plans = absurd (moved refl)
-begins_after job n first some (move ∷ moves) moved opened plans = plunges job drill _ _ _ n (move ∷ moves) moved opened plans.1.1.0
+begins_after : (job : Job) (first : Move) (some others : List Move) → others ≢ []
+    → ArePlans job [] None Unknown ((drill, first ∷ some) ∷ (with_other_tool, []) ∷ (drill, others) ∷ [])
+    → PlungesFrom job drill (tip_after_moves (Height job.sec) (first ∷ some)) others
+begins_after job first some [] moved plans = absurd (moved refl)
+begins_after job first some (move ∷ moves) moved plans = plunges job drill _ _ _ (move ∷ moves) moved plans.1.1.0
 
-begins_anew : (job : Job) (n : Node) (first : Move) (some others : List Move) → others ≢ [] → IsOpening job with_other_tool n
-    → ArePlans job (λ way. ⊥) 0 None ((drill, first ∷ some) ∷ (with_other_tool, others) ∷ [])
-    → PlungesFrom job with_other_tool None others
-begins_anew job n first some [] moved opened plans = absurd (moved refl)
-begins_anew job n first some (move ∷ moves) moved opened plans = plunges job with_other_tool _ _ _ n (move ∷ moves) moved opened plans.1.0
+begins_anew : (job : Job) (first : Move) (some others : List Move) → others ≢ []
+    → ArePlans job [] None Unknown ((drill, first ∷ some) ∷ (with_other_tool, others) ∷ [])
+    → PlungesFrom job with_other_tool (Height job.sec) others
+begins_anew job first some [] moved plans = absurd (moved refl)
+begins_anew job first some (move ∷ moves) moved plans = plunges job with_other_tool _ _ _ (move ∷ moves) moved plans.1.0
 
 pub steps_begin_at_the_tip : StepsBeginAtTheTip
-steps_begin_at_the_tip job n first some others moved = (begins_after job n first some others moved, begins_anew job n first some others moved)
+steps_begin_at_the_tip job first some others moved = (begins_after job first some others moved, begins_anew job first some others moved)
 
--- Ways at feed.
+-- A job has one plan.
 
-way_is : (way : Cutting) (body : Body) (from to : Pt3) → way.body ≡ body → way.from ≡ from → way.to ≡ to → way ≡ record { body = body; from = from; to = to }
-way_is way body from to e f g = λ i. record { body = e i; from = f i; to = g i }
+heads : (s t : StepJob) (xs ys : List StepJob) → s ∷ xs ≡ t ∷ ys → s ≡ t
+heads s t xs ys e = cc
 
-fed_first : (step : Step) (p q r : Pt3) (way : Cutting) → IsFedBy step (Some p) (FeedTo q ∷ RapidTo r ∷ []) way → way ≡ record { body = step.body; from = p; to = q }
-fed_first step p q r way ([], after, e, tip, body) = let to : way.to ≡ q = cc in let from : way.from ≡ p = cc in way_is way step.body p q body from to
-fed_first step p q r way (a ∷ [], after, e, tip, body) = absurd (let h : RapidTo r ≡ FeedTo way.to = cc in cc)
-fed_first step p q r way (a ∷ b ∷ [], after, e, tip, body) = absurd (let h : [] ≡ FeedTo way.to ∷ after = cc in cc)
-fed_first step p q r way (a ∷ b ∷ d ∷ before, after, e, tip, body) = absurd (let h : [] ≡ d ∷ (before ++ FeedTo way.to ∷ after) = cc in cc)
+tails : (s t : StepJob) (xs ys : List StepJob) → s ∷ xs ≡ t ∷ ys → xs ≡ ys
+tails s t xs ys e = cc
 
-tip_is : (move : Move) (q from : Pt3) → move ≡ RapidTo q → Some (end_of move) ≡ Some from → from ≡ q
-tip_is move q from is tip = let h : end_of move ≡ q = ap end_of is in cc
+not_more : (t : StepJob) (ys : List StepJob) → [] ≡ t ∷ ys → ⊥
+not_more t ys e = cc
 
-fed_second : (step : Step) (q r : Pt3) (way : Cutting) → IsFedBy step None (RapidTo q ∷ FeedTo r ∷ []) way → way ≡ record { body = step.body; from = q; to = r }
-fed_second step q r way ([], after, e, tip, body) = absurd (let h : RapidTo q ≡ FeedTo way.to = cc in cc)
-fed_second step q r way (a ∷ [], after, e, tip, body) =
-    let first : a ≡ RapidTo q = cc in
-    let to : way.to ≡ r = cc in
-    let from : way.from ≡ q = tip_is a q way.from first tip in
-    way_is way step.body q r body from to
-fed_second step q r way (a ∷ b ∷ [], after, e, tip, body) = absurd (let h : [] ≡ FeedTo way.to ∷ after = cc in cc)
-fed_second step q r way (a ∷ b ∷ d ∷ before, after, e, tip, body) = absurd (let h : [] ≡ d ∷ (before ++ FeedTo way.to ∷ after) = cc in cc)
+no_move : (move : Move) (moves : List Move) → [] ≡ move ∷ moves → ⊥
+no_move move moves e = cc
 
-pub only_feeds_of_moves_cut : OnlyFeedsOfMovesCut
-only_feeds_of_moves_cut step p q r way = (
-  (
-    fed_first step p q r way,
-    λ is. subst (IsFedBy step (Some p) (FeedTo q ∷ RapidTo r ∷ [])) (sym is) ([], RapidTo r ∷ [], refl, refl, refl),
-  ),
-  (
-    fed_second step q r way,
-    λ is. subst (IsFedBy step None (RapidTo q ∷ FeedTo r ∷ [])) (sym is) (RapidTo q ∷ [], [], refl, refl, refl),
-  ),
-)
+joined : (s t : StepJob) (ms ns : List Move) (xs ys : List (StepJob × List Move)) → s ≡ t → ms ≡ ns → xs ≡ ys → (s, ms) ∷ xs ≡ (t, ns) ∷ ys
+joined s t ms ns xs ys same moves rest = λ i. (same i, moves i) ∷ rest i
 
--- Acts.
+one_list : (job : Job) (passes : List Pass) (tool : Option ℕ) (tip : Tip) (some others : List (StepJob × List Move))
+    → map (λ (planned : StepJob × List Move). planned.0) some ≡ map (λ (planned : StepJob × List Move). planned.0) others
+    → ArePlans job passes tool tip some → ArePlans job passes tool tip others → some ≡ others
+one_list job passes tool tip [] [] e p q = refl
+one_list job passes tool tip [] ((t, ns) ∷ ys) e p q = absurd (not_more t _ e)
+one_list job passes tool tip ((s, ms) ∷ xs) [] e p q = absurd (not_more s _ (sym e))
+one_list job passes tool tip ((s, []) ∷ xs) ((t, []) ∷ ys) e p q =
+    joined s t [] [] xs ys (heads s t _ _ e) refl (one_list job passes tool tip xs ys (tails s t _ _ e) p.1 q.1)
+one_list job passes tool tip ((s, []) ∷ xs) ((t, n ∷ ns) ∷ ys) e p q =
+    let planned = subst (λ (u : StepJob). IsStepPlan job u passes (tip_for job tool tip u) (n ∷ ns)) (sym (heads s t _ _ e)) q.0 in
+    absurd (no_move n ns (one_step_plan job s passes (tip_for job tool tip s) [] (n ∷ ns) p.0 planned))
+one_list job passes tool tip ((s, m ∷ ms) ∷ xs) ((t, []) ∷ ys) e p q =
+    let planned = subst (λ (u : StepJob). IsStepPlan job u passes (tip_for job tool tip u) []) (sym (heads s t _ _ e)) q.0 in
+    absurd (no_move m ms (one_step_plan job s passes (tip_for job tool tip s) [] (m ∷ ms) planned p.0))
+one_list job passes tool tip ((s, m ∷ ms) ∷ xs) ((t, n ∷ ns) ∷ ys) e p q =
+    let same = heads s t _ _ e in
+    let planned = subst (λ (u : StepJob). IsStepPlan job u passes (tip_for job tool tip u) (n ∷ ns)) (sym same) q.0 in
+    let moves = one_step_plan job s passes (tip_for job tool tip s) (m ∷ ms) (n ∷ ns) p.0 planned in
+    let later = subst (λ (u : StepJob). ArePlans job (passes ++ passes_by u.body (tip_for job tool tip u) (n ∷ ns)) (Some u.tool) (tip_after_moves (tip_for job tool tip u) (n ∷ ns)) ys)
+    (sym same) q.1 in
+    let rest = subst (λ (ks : List Move). ArePlans job (passes ++ passes_by s.body (tip_for job tool tip s) ks) (Some s.tool) (tip_after_moves (tip_for job tool tip s) ks) ys)
+    (sym moves) later in
+    joined s t (m ∷ ms) (n ∷ ns) xs ys same moves
+    (one_list job (passes ++ passes_by s.body (tip_for job tool tip s) (m ∷ ms)) (Some s.tool) (tip_after_moves (tip_for job tool tip s) (m ∷ ms)) xs ys (tails s t _ _ e) p.1 rest)
 
-one_list : (state : State) (blocks : List Block) (some others : List Act) → Runs state blocks some → Runs state blocks others → some ≡ others
-one_list state [] some others p q = p ∙ sym q
-one_list state (b ∷ bs) some others (clean, (later, is, runs)) (clean', (later', is', runs')) =
-    is ∙ ap (λ acts. acts_of state b ++ acts) (one_list (state_after state b) bs later later' runs runs') ∙ sym is'
-
-pub lines_have_one_meaning : LinesHaveOneMeaning
-lines_have_one_meaning state blocks some others = (one_list state blocks some others, λ b fault faulty runs. let clean = runs.0 in cc)
-
--- Lines with great numbers.
-
-first_byte : List ℕ → ℕ
-first_byte [] = 0
-first_byte (b ∷ bs) = b
-
-later_bytes : List ℕ → List ℕ
-later_bytes [] = []
-later_bytes (b ∷ bs) = bs
-
-lower_first : (m n : ℕ) → m < n → m ≡ n → ⊥
-lower_first m n h e = omega arith
-
-higher_first : (m n : ℕ) → m < n → n ≡ m → ⊥
-higher_first m n h e = omega arith
-
-one_too_many : decimal 100001 ≡ codes "100001"
-unfolding digits
-one_too_many = refl
-
-not_great : (form : Form) → IsProper form → codes "F100001" ≡ form_text form → ⊥
-unfolding first_byte later_bytes
-not_great PercentSign proper e = higher_first 37 70 (lit< tt) (ap first_byte e)
-not_great AllModes proper e = lower_first 70 71 (lit< tt) (ap first_byte e)
-not_great (ToolNote number instance) proper e = higher_first 40 70 (lit< tt) (ap first_byte e)
-not_great (StepMark n) proper e = higher_first 40 70 (lit< tt) (ap first_byte e)
-not_great (ToolChange k) proper e = lower_first 70 84 (lit< tt) (ap first_byte e)
-not_great (LengthOffset k) proper e = lower_first 70 71 (lit< tt) (ap first_byte e)
-not_great (SpindleSpeed s) proper e = lower_first 70 83 (lit< tt) (ap first_byte e)
-not_great (FeedRate f) proper e =
-    let text : codes "100001" ≡ decimal f = ap later_bytes e in
-    let same = decimal_injective f 100001 (omega arith) (lit< tt) (sym text ∙ sym one_too_many) in
-    omega arith
-not_great (HeightMotion Rapid z) proper e = lower_first 70 71 (lit< tt) (ap first_byte e)
-not_great (HeightMotion Feed z) proper e = lower_first 70 71 (lit< tt) (ap first_byte e)
-not_great (PlaneMotion Rapid x y) proper e = lower_first 70 71 (lit< tt) (ap first_byte e)
-not_great (PlaneMotion Feed x y) proper e = lower_first 70 71 (lit< tt) (ap first_byte e)
-not_great ProgramEnd proper e = lower_first 70 77 (lit< tt) (ap first_byte e)
-
-pub great_feeds_say_nothing : GreatFeedsSayNothing
-great_feeds_say_nothing block line = not_great line.form line.proper line.text
+pub one_plan : OnePlan
+one_plan job some others p q = one_list job [] None Unknown some others (p.steps ∙ sym q.steps) p.moves q.moves

@@ -1,29 +1,18 @@
--- The words of the command line (this project's own).
+-- MEANING: the words of the command line (this project's own).
 use Rattle.std.specs.Prelude.{◌≡◌, ◌≢◌, ℕ, ◌+◌, ◌-◌, ◌*◌, ◌/◌, ◌≤◌, ◌<◌, List, [], ◌∷◌, ◌++◌, length, take, codes}
 use Rattle.std.specs.Str.Parse.{IsNumeral, digits_value}
 use Rattle.sn_geom.specs.declared.limits.TheConstants.{PER_MM}
+use Rattle.sn_outline.specs.JobRule.{IsPitch}
 
 -- a file word is not empty and does not begin with a minus sign
 abbrev pub IsFileWord : List ℕ → Type 0
 IsFileWord [] = ⊥
 IsFileWord (c ∷ cs) = c ≢ 45
 
--- the limits of the pitch: 20 and 2,000 micrometres
-abbrev pub least_pitch : ℕ
-least_pitch = 20 * PER_MM / 1000
-
-abbrev pub greatest_pitch : ℕ
-greatest_pitch = 2000 * PER_MM / 1000
-
--- a pitch within its limits
-pub record IsPitch (pitch : ℕ) : Type 0 where
-  pub least : least_pitch ≤ pitch
-  pub greatest : pitch ≤ greatest_pitch
-
--- the word is digits, and their value is a pitch
+-- the word is digits, whose value in whole micrometres is a pitch
 pub record IsPitchWord (word : List ℕ) (pitch : ℕ) : Type 0 where
   pub digits : IsNumeral 10 word
-  pub value : digits_value 10 word ≡ pitch
+  pub value : digits_value 10 word * (PER_MM / 1000) ≡ pitch
   pub within : IsPitch pitch
 
 -- the words ask for the program of a part at a pitch: compile PART --cell N

@@ -1,102 +1,10 @@
--- The lines of a program, and what they say (after RS274/NGC version 3, NISTIR 6556): the forms of line that are written
--- here. A line of another form says nothing yet.
-use Rattle.std.specs.Prelude.{◌≡◌, ℕ, ◌≤◌, ◌<◌, ◌^◌, ◌==◌, ℤ, pos, List, [], ◌∷◌, ◌++◌, codes, decimal, Some, None, true, false, if◌then◌else◌}
-use Rattle.sn_geom.specs.Length.{IsLength}
-use Rattle.sn_gwrite.specs.declared.kept.MotionMode.{MotionMode}
-use Rattle.sn_gwrite.specs.declared.kept.MotionMode.TheVariants.{Rapid, Feed}
-use Rattle.sn_gwrite.specs.Length.{length_text}
-use Rattle.sn_gwrite.specs.Program.{mode_text}
-use Rattle.stepmill.specs.Machine.{Word, Block}
+-- MEANING: the lines of a program, each read as its block (after RS274/NGC version 3, NISTIR 6556, in this project's
+-- profile).
+use Rattle.std.specs.Prelude.{ℕ, List, [], ◌∷◌}
+use Rattle.sn_geom.specs.Block.{Block}
+use Rattle.sn_geom.specs.LineText.{LineText}
 
--- a line feed ends a line; bytes behind the last one are a line where there are some
-abbrev pub with_byte : ℕ → List (List ℕ) → List (List ℕ)
-with_byte byte [] = (byte ∷ []) ∷ []
-with_byte byte (line ∷ lines) = (byte ∷ line) ∷ lines
-
-abbrev pub lines_of : List ℕ → List (List ℕ)
-lines_of [] = []
-lines_of (byte ∷ bytes) = if byte == 10 then [] ∷ lines_of bytes else with_byte byte (lines_of bytes)
-
--- the forms of line
-pub data Form : Type 0 where
-  PercentSign : Form
-  AllModes : Form
-  ToolNote : (number instance : ℕ) → Form
-  StepMark : ℕ → Form
-  ToolChange : ℕ → Form
-  LengthOffset : ℕ → Form
-  SpindleSpeed : ℕ → Form
-  FeedRate : ℕ → Form
-  HeightMotion : MotionMode → ℤ → Form
-  PlaneMotion : MotionMode → (x y : ℤ) → Form
-  ProgramEnd : Form
-
--- the numbers of the line are within the limits of its words
-abbrev pub IsProper : Form → Type 0
-IsProper PercentSign = Unit {0}
-IsProper AllModes = Unit {0}
-IsProper (ToolNote number instance) = (number < 2 ^ 32) × (instance < 2 ^ 32)
-IsProper (StepMark n) = (1 ≤ n) × (n < 2 ^ 32)
-IsProper (ToolChange k) = k ≤ 99999
-IsProper (LengthOffset k) = k ≤ 99999
-IsProper (SpindleSpeed s) = s ≤ 100000
-IsProper (FeedRate f) = f ≤ 100000
-IsProper (HeightMotion mode z) = IsLength z
-IsProper (PlaneMotion mode x y) = IsLength x × IsLength y
-IsProper ProgramEnd = Unit {0}
-
-abbrev pub form_text : Form → List ℕ
-form_text PercentSign = codes "%"
-form_text AllModes = codes "G21 G90 G17 G94 G40 G61"
-form_text (ToolNote number instance) = codes "(T" ++ decimal number ++ codes " #" ++ decimal instance ++ codes ")"
-form_text (StepMark n) = codes "(WS #" ++ decimal n ++ codes ")"
-form_text (ToolChange k) = codes "T" ++ decimal k ++ codes " M6"
-form_text (LengthOffset k) = codes "G43 H" ++ decimal k
-form_text (SpindleSpeed s) = codes "S" ++ decimal s ++ codes " M3"
-form_text (FeedRate f) = codes "F" ++ decimal f
-form_text (HeightMotion mode z) = mode_text mode ++ (codes " Z" ++ length_text z)
-form_text (PlaneMotion mode x y) = mode_text mode ++ (codes " X" ++ length_text x ++ codes " Y" ++ length_text y)
-form_text ProgramEnd = codes "M2"
-
-abbrev pub word : ℕ → ℤ → Word
-word letter value = record { letter = letter; value = value }
-
--- a G word, its value in tenths
-abbrev pub g : ℕ → Word
-g tenths = word 71 (pos tenths)
-
-abbrev pub m : ℕ → Word
-m n = word 77 (pos n)
-
-abbrev pub mode_word : MotionMode → Word
-mode_word Rapid = g 0
-mode_word Feed = g 10
-
-abbrev pub form_words : Form → List Word
-form_words PercentSign = []
-form_words AllModes = g 210 ∷ g 900 ∷ g 170 ∷ g 940 ∷ g 400 ∷ g 610 ∷ []
-form_words (ToolNote number instance) = []
-form_words (StepMark n) = []
-form_words (ToolChange k) = word 84 (pos k) ∷ m 6 ∷ []
-form_words (LengthOffset k) = g 430 ∷ word 72 (pos k) ∷ []
-form_words (SpindleSpeed s) = word 83 (pos s) ∷ m 3 ∷ []
-form_words (FeedRate f) = word 70 (pos f) ∷ []
-form_words (HeightMotion mode z) = mode_word mode ∷ word 90 z ∷ []
-form_words (PlaneMotion mode x y) = mode_word mode ∷ word 88 x ∷ word 89 y ∷ []
-form_words ProgramEnd = m 2 ∷ []
-
-abbrev pub form_block : Form → Block
-form_block PercentSign = record { percent = true; number = None; mark = None; words = [] }
-form_block (StepMark n) = record { percent = false; number = None; mark = Some n; words = [] }
-form_block form = record { percent = false; number = None; mark = None; words = form_words form }
-
--- the line says this
-pub record LineText (line : List ℕ) (block : Block) : Type 0 where
-  pub form : Form
-  pub proper : IsProper form
-  pub text : line ≡ form_text form
-  pub says : block ≡ form_block form
-
+-- each line is read as its block
 abbrev pub AreBlocks : List (List ℕ) → List Block → Type 0
 AreBlocks [] [] = Unit {0}
 AreBlocks [] (block ∷ blocks) = ⊥

@@ -1,8 +1,11 @@
--- What a command ends with: a status, and the texts for the output and for the errors (this project's own).
-use Rattle.std.specs.Prelude.{◌≡◌, ℕ, ◌+◌, ◌≤◌, ◌<◌, ◌⊎◌, List, [], length, codes, IsTrue}
-use Rattle.sn_io.specs.Count.{Rises}
+-- MEANING: what a command ends with, a status and the texts for the output and for the errors (this project's own).
+use Rattle.std.specs.Prelude.{◌≡◌, ℕ, ◌+◌, ◌≤◌, ◌<◌, ◌⊎◌, List, [], ◌++◌, length, codes, decimal, IsTrue}
+use Rattle.sn_io.specs.Count.{count_after, Rises}
 use Rattle.sn_io.specs.Files.{FilesState}
 use Rattle.sn_io.specs.Sink.{SinkState, Takes, TakesFront}
+use Rattle.sn_outline.specs.Job.{Job}
+use Rattle.sn_outline.specs.JobRule.{IsJob}
+use Rattle.sn_outline.specs.declared.job.StepJob.{StepJob}
 use Rattle.sn_plain.specs.declared.part.Plain.{Plain}
 use Rattle.sn_p21.specs.Content.{Content}
 use Rattle.sn_p21.specs.FirstFault.{IsFirstFault}
@@ -14,8 +17,11 @@ use Rattle.stepmill.specs.declared.refusal.Refusal.{Refusal}
 use Rattle.stepmill.specs.declared.refusal.Refusal.TheVariants as refused
 use Rattle.stepmill.specs.declared.reading.TheConstants.{LONGEST}
 use Rattle.stepmill.specs.Command.{IsAccepted, IsCommand, DepartsAt}
-use Rattle.stepmill.specs.FaultText.{placed_text, fault_text, fault_status}
-use Rattle.stepmill.specs.OneHole.{IsBuilt, IsSeen, hole_job, hole_plan}
+use Rattle.stepmill.specs.FaultText.{placed_text, fault_text, p21_fault}
+use Rattle.stepmill.specs.Good.{Good}
+use Rattle.stepmill.specs.declared.moves.Move.{Move}
+use Rattle.stepmill.specs.hole.OneHole.{IsBuilt, IsSeen, hole_feature, hole_job}
+use Rattle.stepmill.specs.Plan.{IsPlan}
 use Rattle.stepmill.specs.Text.{program_text}
 
 -- the text of a refusal
@@ -26,7 +32,7 @@ refusal_text refused.NotRead = codes "stepmill: read fault\n"
 refusal_text refused.NoMemory = codes "stepmill: memory\n"
 refusal_text refused.TooLong = codes "stepmill: too long\n"
 refusal_text refused.FormNotBuilt = codes "stepmill: part: form not built\n"
-refusal_text refused.TooSmall = codes "stepmill: part: #8 too small for the grid\n"
+refusal_text (refused.TooSmall feature) = codes "stepmill: part: #" ++ (decimal feature ++ codes " too small for the grid\n")
 
 -- the status of a refusal whose text was written
 abbrev pub status_of : Refusal → Status
@@ -34,14 +40,15 @@ status_of (refused.Word place) = BadWords
 status_of refused.NotRead = ReadFault
 status_of refused.NoMemory = Memory
 status_of refused.TooLong = TooLong
-status_of (refused.Text fault) = fault_status fault
+status_of (refused.Text fault) = PartRefused
 status_of refused.FormNotBuilt = PartRefused
-status_of refused.TooSmall = PartRefused
+status_of (refused.TooSmall feature) = PartRefused
 
--- the file asks for what is refused: it is of no form that can be compiled, or the grid sees nothing of its hole
+-- the file asks for what is refused: it is of no form that can be compiled, or the grid sees nothing of a feature
 abbrev pub IsRefusedForm : Content → ℕ → Refusal → Type 0
 IsRefusedForm f pitch refused.FormNotBuilt = (p : Plain) → IsPlain f p → ¬ IsBuilt p pitch
-IsRefusedForm f pitch refused.TooSmall = (p : Plain) × IsPlain f p × IsBuilt p pitch × ¬ IsSeen p pitch
+IsRefusedForm f pitch (refused.TooSmall feature) =
+    (p : Plain) × IsPlain f p × IsBuilt p pitch × (feature ≡ hole_feature) × ¬ IsSeen p pitch
 IsRefusedForm f pitch _ = ⊥
 
 -- The bytes of the part ask for what is refused. A part is judged only where it is not too long.
@@ -50,46 +57,83 @@ IsRefusedPart bytes pitch (refused.Word place) = ⊥
 IsRefusedPart bytes pitch refused.NotRead = ⊥
 IsRefusedPart bytes pitch refused.NoMemory = ⊥
 IsRefusedPart bytes pitch refused.TooLong = LONGEST < length bytes
-IsRefusedPart bytes pitch (refused.Text fault) = (length bytes ≤ LONGEST) × IsFirstFault bytes fault
+IsRefusedPart bytes pitch (refused.Text fault) = (length bytes ≤ LONGEST) × IsFirstFault bytes (p21_fault fault)
 IsRefusedPart bytes pitch refusal = (length bytes ≤ LONGEST) × ((f : Content) × IsPartText bytes f × IsRefusedForm f pitch refusal)
 
--- the bytes are those of a part that is compiled
-pub record IsSoundPart (bytes : List ℕ) (pitch : ℕ) (p : Plain) : Type 0 where
+-- The bytes are those of a part that is compiled at the pitch, and this is its job: today a plain part, that can be
+-- compiled and of whose hole the grid sees something.
+pub record IsSoundPart (bytes : List ℕ) (pitch : ℕ) (job : Job) : Type 0 where
   pub short : length bytes ≤ LONGEST
   pub file : Content
   pub text : IsPartText bytes file
-  pub plain : IsPlain file p
-  pub built : IsBuilt p pitch
-  pub seen : IsSeen p pitch
+  pub part : Plain
+  pub plain : IsPlain file part
+  pub built : IsBuilt part pitch
+  pub seen : IsSeen part pitch
+  pub job_is : job ≡ hole_job part pitch
 
 -- a part that is compiled is not refused
 abbrev pub SoundOrRefused : Type 0
-SoundOrRefused = (bytes : List ℕ) (pitch : ℕ) (p : Plain) (refusal : Refusal) → IsSoundPart bytes pitch p → ¬ IsRefusedPart bytes pitch refusal
+SoundOrRefused = (bytes : List ℕ) (pitch : ℕ) (job : Job) (refusal : Refusal) → IsSoundPart bytes pitch job → ¬ IsRefusedPart bytes pitch refusal
 
--- the words are refused, or the part that they name
-abbrev pub IsRefusal : List (List ℕ) → (List ℕ → List ℕ) → Refusal → Type 0
+-- The words are refused, or the part that they name. The files give bytes for each opening of a name, counted from 0: the
+-- part is the first opening of its name.
+abbrev pub IsRefusal : List (List ℕ) → (List ℕ → ℕ → List ℕ) → Refusal → Type 0
 IsRefusal words given (refused.Word place) = DepartsAt words place
-IsRefusal words given refusal = (name : List ℕ) × (pitch : ℕ) × IsCommand words name pitch × IsRefusedPart (given name) pitch refusal
+IsRefusal words given refusal = (name : List ℕ) × (pitch : ℕ) × IsCommand words name pitch × IsRefusedPart (given name 0) pitch refusal
 
--- the words are a command, and the part that they name is sound
-pub record IsSound (words : List (List ℕ)) (given : List ℕ → List ℕ) (p : Plain) (pitch : ℕ) : Type 0 where
+-- the words are a command, the part that they name is sound, and this is its job
+pub record IsJobOf (words : List (List ℕ)) (given : List ℕ → ℕ → List ℕ) (job : Job) : Type 0 where
   pub name : List ℕ
+  pub pitch : ℕ
   pub command : IsCommand words name pitch
-  pub part : IsSoundPart (given name) pitch p
+  pub part : IsSoundPart (given name 0) pitch job
 
--- the program of a plain part
-abbrev pub hole_program : Plain → ℕ → List ℕ
-hole_program p pitch = program_text (hole_job p pitch) (hole_plan p pitch)
-
--- the status, the text for the output and the text for the errors, memory and devices apart
-abbrev pub IsOutcome : List (List ℕ) → (List ℕ → List ℕ) → Status → List ℕ → List ℕ → Type 0
-IsOutcome words given Done text message = (p : Plain) × (pitch : ℕ) × IsSound words given p pitch × (text ≡ hole_program p pitch) × (message ≡ [])
-IsOutcome words given status text message =
-    (refusal : Refusal) × IsRefusal words given refusal × (status ≡ status_of refusal) × (text ≡ []) × (message ≡ refusal_text refusal)
+-- The status, the text for the output and the text for the errors, memory and devices apart: the program of the job and
+-- no message, or no program and the message of a refusal.
+pub data IsOutcome (words : List (List ℕ)) (given : List ℕ → ℕ → List ℕ) (status : Status) (text message : List ℕ) : Type 0 where
+  compiled : (job : Job) (plan : List (StepJob × List Move)) → IsJobOf words given job → IsPlan job plan
+      → status ≡ Done → text ≡ program_text job plan → message ≡ [] → IsOutcome words given status text message
+  turned_down : (refusal : Refusal) → IsRefusal words given refusal
+      → status ≡ status_of refusal → text ≡ [] → message ≡ refusal_text refusal → IsOutcome words given status text message
 
 -- a status that memory or a device may give in place of the outcome's
 abbrev pub IsOfDevices : Status → Type 0
 IsOfDevices status = (status ≡ ReadFault) ⊎ ((status ≡ WriteFault) ⊎ (status ≡ Memory))
+
+-- the outcome, with what the sinks took
+pub record Ends (words : List (List ℕ)) (given : List ℕ → ℕ → List ℕ) (status : Status) (out out_after err err_after : SinkState) : Type 0 where
+  pub text : List ℕ
+  pub message : List ℕ
+  pub outcome : IsOutcome words given status text message
+  pub written : Takes out out_after text
+  pub told : Takes err err_after message
+
+-- a sound part was read of a name, and this is its job: its bytes are those that the files told, where they tell any
+pub record IsReadOf (files : FilesState) (name : List ℕ) (pitch : ℕ) (job : Job) : Type 0 where
+  pub bytes : List ℕ
+  pub content : IsTrue files.tells → bytes ≡ files.given name 0
+  pub sound : IsSoundPart bytes pitch job
+
+-- What is known of a job and its plan before anything is written, whether the files tell their content or not: the words
+-- are a command, a sound part was read of the name in them, and these are its job, that keeps the rule of jobs, and its plan.
+pub record IsPrepared (words : List (List ℕ)) (files : FilesState) (job : Job) (plan : List (StepJob × List Move)) : Type 0 where
+  pub name : List ℕ
+  pub pitch : ℕ
+  pub command : IsCommand words name pitch
+  pub read : IsReadOf files name pitch job
+  pub rule : IsJob job
+  pub planned : IsPlan job plan
+
+-- The words were carried out: the output took the program of the job, that program is good for the job, and the errors
+-- are untouched.
+pub record Compiles (words : List (List ℕ)) (files : FilesState) (out out_after err err_after : SinkState) : Type 0 where
+  pub job : Job
+  pub plan : List (StepJob × List Move)
+  pub prepared : IsPrepared words files job plan
+  pub written : Takes out out_after (program_text job plan)
+  pub untouched : err_after ≡ err
+  pub good : Good job (program_text job plan)
 
 -- why the file of a part was refused, with the files before and after
 abbrev pub IsRefusedFile : FilesState → FilesState → List ℕ → ℕ → Refusal → Type 0
@@ -98,31 +142,36 @@ IsRefusedFile before after name pitch refused.NotRead = Rises before.faults afte
 IsRefusedFile before after name pitch refused.NoMemory = Unit {0}
 IsRefusedFile before after name pitch refusal = IsTrue before.tells → IsRefusedPart (before.given name 0) pitch refusal
 
--- Why a command was refused, with the files before and after: words that are refused leave the files as they were.
+-- Why a command was refused, with the files before and after: words that depart leave the files as they were, and all
+-- other refusals are of words that are a command.
 abbrev pub Explains : List (List ℕ) → FilesState → FilesState → Refusal → Type 0
 Explains words before after (refused.Word place) = DepartsAt words place × (after ≡ before)
 Explains words before after refused.NotRead = IsAccepted words × Rises before.faults after.faults
 Explains words before after refused.NoMemory = IsAccepted words
-Explains words before after refusal = IsAccepted words × (IsTrue before.tells → IsRefusal words (λ name. before.given name 0) refusal)
+Explains words before after refusal = IsAccepted words × (IsTrue before.tells → IsRefusal words before.given refusal)
 
--- What reading the part of a command does to the files: it is opened once at the most, and read to its end or to the limit.
+-- The words were refused: the refusal has its cause and gives the status, the errors took its text, and the output is
+-- untouched.
+pub record Refuses (words : List (List ℕ)) (before after : FilesState) (status : Status) (out out_after err err_after : SinkState) : Type 0 where
+  pub refusal : Refusal
+  pub cause : Explains words before after refusal
+  pub status_is : status ≡ status_of refusal
+  pub told : Takes err err_after (refusal_text refusal)
+  pub untouched : out_after ≡ out
+
+-- What a command does to the files: words that are no command leave them as they are; a part is opened once at the most,
+-- and read to its end or until one byte more than the limit was taken.
 pub record ReadsOnce (words : List (List ℕ)) (before after : FilesState) : Type 0 where
+  pub refused : ¬ IsAccepted words → after ≡ before
   pub opens : after.opens ≤ before.opens + 1
   pub reads : after.reads ≤ before.reads + LONGEST + 2
+  pub bytes : after.bytes ≤ count_after before.bytes (LONGEST + 1)
   pub no_strange : IsTrue before.tells → (name : List ℕ) (pitch : ℕ) → IsCommand words name pitch → IsTrue (before.has_file name) → after.strange_opens ≡ before.strange_opens
 
--- A write failed: of the text of a refusal that has its cause, with nothing written to the output, or of the program, with
--- nothing written to the errors. A front of that text was written.
+-- A write failed: of the text of a refusal that has its cause, with the output untouched, or of the program of a job that
+-- the words ask for, with the errors untouched. A front of that text was written.
 pub data Stops (words : List (List ℕ)) (before after : FilesState) (out out_after err err_after : SinkState) : Type 0 where
   at_message : (refusal : Refusal) → Explains words before after refusal
-      → Takes out out_after [] → TakesFront err err_after (refusal_text refusal) → Stops words before after out out_after err err_after
-  at_program : (p : Plain) (pitch : ℕ) → IsBuilt p pitch → (IsTrue before.tells → IsSound words (λ name. before.given name 0) p pitch)
-      → TakesFront out out_after (hole_program p pitch) → Takes err err_after [] → Stops words before after out out_after err err_after
-
--- the outcome, with what the sinks took
-pub record Ends (words : List (List ℕ)) (given : List ℕ → List ℕ) (status : Status) (out out_after err err_after : SinkState) : Type 0 where
-  pub text : List ℕ
-  pub message : List ℕ
-  pub outcome : IsOutcome words given status text message
-  pub written : Takes out out_after text
-  pub told : Takes err err_after message
+      → out_after ≡ out → TakesFront err err_after (refusal_text refusal) → Stops words before after out out_after err err_after
+  at_program : (job : Job) (plan : List (StepJob × List Move)) → IsPrepared words before job plan
+      → TakesFront out out_after (program_text job plan) → err_after ≡ err → Stops words before after out out_after err err_after

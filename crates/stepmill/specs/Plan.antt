@@ -1,108 +1,75 @@
--- The moves that a job is cut with (this project's own).
-use Rattle.std.specs.Prelude.{◌≡◌, ℕ, ◌⊎◌, Bool, false, ◌&&◌, ◌==◌, ℤ, pos, ◌+ℤ◌, ◌≤ℤ◌, ◌<ℤ◌, List, [], ◌∷◌, ◌++◌, map, Option, Some, None, if◌then◌else◌}
-use Rattle.std.specs.Int.{int_min}
-use Rattle.std.specs.Ordering.{int_eq}
+-- MEANING: the moves that a job is cut with (this project's own).
+use Rattle.std.specs.Prelude.{◌≡◌, ℕ, ◌⊎◌, ℤ, pos, ◌+ℤ◌, ◌≤ℤ◌, ◌<ℤ◌, List, [], ◌∷◌, ◌++◌, map, Option, Some, None}
 use Rattle.sn_geom.specs.declared.units.Pt.{Pt}
-use Rattle.sn_geom.specs.declared.units.Pt3.{Pt3}
+use Rattle.sn_geom.specs.declared.tip.Tip.{Tip}
+use Rattle.sn_geom.specs.declared.tip.Tip.TheVariants.{Unknown, Height, At}
+use Rattle.sn_geom.specs.Tip.{tip_after}
+use Rattle.sn_geom.specs.declared.units.Body.{Body}
 use Rattle.sn_geom.specs.declared.units.Cell.{Cell}
-use Rattle.sn_geom.specs.declared.limits.TheConstants.{GAP, REACH}
-use Rattle.stepmill.specs.Job.{Job, Step, tip_floor}
-use Rattle.stepmill.specs.Job.Outline.{Rectangle, Circle, Trail}
-use Rattle.stepmill.specs.Job.Way.{Clearing, Following, Drilling}
-use Rattle.stepmill.specs.Region.{Node, node_of, InAllowed, IsOpening}
-use Rattle.stepmill.specs.Material.{Cuttings, IsMaterial}
-
--- a straight move of the tip to a point, in rapid or at feed
-pub data Move : Type 0 where
-  RapidTo : Pt3 → Move
-  FeedTo : Pt3 → Move
-
-abbrev pub end_of : Move → Pt3
-end_of (RapidTo p) = p
-end_of (FeedTo p) = p
-
-abbrev pub same_place : Pt3 → Pt3 → Bool
-same_place a b = int_eq a.x b.x && int_eq a.y b.y && int_eq a.z b.z
-
-abbrev pub stands_at : Option Pt3 → Pt3 → Bool
-stands_at None p = false
-stands_at (Some tip) p = same_place tip p
-
--- the moves that are made from a tip, which may not be known: all but those that end where they start
-abbrev pub made : Option Pt3 → List Move → List Move
-made tip [] = []
-made tip (move ∷ moves) = if stands_at tip (end_of move) then made tip moves else move ∷ made (Some (end_of move)) moves
-
--- a point over a place in the plane
-abbrev pub over : Pt → ℤ → Pt3
-over p z = record { x = p.x; y = p.y; z = z }
-
--- at the security height over a place, then down to where the feed begins, and at feed to the tip height of a layer;
--- above is the height over which no material is left there
-abbrev pub approach : ℤ → Pt → ℤ → ℤ → List Move
-approach sec p above tip = RapidTo (over p sec) ∷ RapidTo (over p (int_min sec (above +ℤ pos GAP))) ∷ FeedTo (over p tip) ∷ []
-
--- at feed up by the point length of the tool, and in rapid to the security height
-abbrev pub lift : ℤ → Pt → ℤ → ℕ → List Move
-lift sec p tip e = FeedTo (over p (int_min (tip +ℤ pos e) (pos REACH))) ∷ RapidTo (over p sec) ∷ []
-
--- a plunge at a place down to the tip floor of the step
-abbrev pub plunge : Job → Step → Pt → ℤ → List Move
-plunge job step centre above =
-    approach job.sec centre above (tip_floor step) ++ lift job.sec centre (tip_floor step) step.body.e
+use Rattle.sn_outline.specs.Job.{Job, tip_floor}
+use Rattle.sn_outline.specs.declared.job.StepJob.{StepJob}
+use Rattle.sn_outline.specs.declared.outline.Shape.{Shape}
+use Rattle.sn_outline.specs.declared.outline.Shape.TheVariants.{Rect, Circle, Polygon, Trail}
+use Rattle.sn_outline.specs.declared.job.Way.{Way}
+use Rattle.sn_outline.specs.declared.job.Way.TheVariants as way
+use Rattle.stepmill.specs.Grid.{Node, node_of}
+use Rattle.stepmill.specs.Material.{Pass, IsMaterial}
+use Rattle.stepmill.specs.declared.moves.Move.{Move}
+use Rattle.stepmill.specs.declared.moves.Move.TheVariants.{Rapid, Feed}
+use Rattle.stepmill.specs.Moves.{made, plunge, tip_for, tip_after_moves}
+use Rattle.stepmill.specs.Region.{InAllowed, IsOpening}
 
 -- The height over the allowed raw nodes over which no material is left: the raw bottom where none is.
-pub record IsHighest (job : Job) (step : Step) (ways : Cuttings) (above : ℤ) : Type 0 where
-  pub bounds : (c : Cell) → IsMaterial job ways c → InAllowed job step (node_of c) → c.z <ℤ above
-  pub reached : (above ≡ job.low.z) ⊎ ((c : Cell) × IsMaterial job ways c × InAllowed job step (node_of c) × (above ≡ c.z +ℤ pos 1))
+pub record IsHighest (job : Job) (step : StepJob) (passes : List Pass) (above : ℤ) : Type 0 where
+  pub bounds : (c : Cell) → IsMaterial job passes c → InAllowed job step (node_of c) → c.z <ℤ above
+  pub reached : (above ≡ job.low.z) ⊎ ((c : Cell) × IsMaterial job passes c × InAllowed job step (node_of c) × (above ≡ c.z +ℤ pos 1))
 
--- The moves of a drilling step from a tip: none where its allowed cells have no material above the tip floor or where it
--- opens no node, and a plunge otherwise.
-pub record IsDrillPlan (job : Job) (step : Step) (centre : Pt) (ways : Cuttings) (tip : Option Pt3) (moves : List Move) : Type 0 where
+-- the step has nothing to do: no material is left over its allowed nodes above its tip floor, or it opens no node
+abbrev pub IsIdle : Job → StepJob → ℤ → Type 0
+IsIdle job step above = (above ≤ℤ tip_floor step) ⊎ ((n : Node) → ¬ IsOpening job step n)
+
+-- the step has something to do: material is left above its tip floor, and it opens a node
+pub record IsBusy (job : Job) (step : StepJob) (above : ℤ) : Type 0 where
+  pub high : tip_floor step <ℤ above
+  pub node : Node
+  pub opened : IsOpening job step node
+
+-- The moves of a drilling step from a tip: none where it has nothing to do, and a plunge where it has.
+pub record IsDrillPlan (job : Job) (step : StepJob) (centre : Pt) (passes : List Pass) (tip : Tip) (moves : List Move) : Type 0 where
   pub above : ℤ
-  pub highest : IsHighest job step ways above
-  pub none : (above ≤ℤ tip_floor step) ⊎ ((n : Node) → ¬ IsOpening job step n) → moves ≡ []
-  pub some : tip_floor step <ℤ above → (n : Node) → IsOpening job step n → moves ≡ made tip (plunge job step centre above)
+  pub highest : IsHighest job step passes above
+  pub moves_are : (IsIdle job step above × (moves ≡ [])) ⊎ (IsBusy job step above × (moves ≡ made tip (plunge job step centre above)))
 
--- the moves of a step; only drilling steps have a plan yet
-abbrev pub IsStepPlan : Job → Step → Cuttings → Option Pt3 → List Move → Type 0
-IsStepPlan job step ways tip moves = elim step.way [
-  | Clearing ↦ ⊥
-  | Following ↦ ⊥
-  | Drilling ↦ elim step.outline [
-    | Rectangle low high ↦ ⊥
-    | Circle centre d ↦ IsDrillPlan job step centre ways tip moves
-    | Trail points width ↦ ⊥
-  ]
-]
+-- the moves of a step by its way and its shape; only drilling steps have a plan yet
+abbrev pub IsPlanBy : Job → StepJob → List Pass → Tip → List Move → Way → Shape → Type 0
+IsPlanBy job step passes tip moves way.Clear shape = ⊥
+IsPlanBy job step passes tip moves way.Trail shape = ⊥
+IsPlanBy job step passes tip moves way.Drill (Rect low high) = ⊥
+IsPlanBy job step passes tip moves way.Drill (Circle centre d) = IsDrillPlan job step centre passes tip moves
+IsPlanBy job step passes tip moves way.Drill (Polygon points) = ⊥
+IsPlanBy job step passes tip moves way.Drill (Trail points width) = ⊥
 
--- the tip after moves
-abbrev pub tip_after : Option Pt3 → List Move → Option Pt3
-tip_after tip [] = tip
-tip_after tip (move ∷ moves) = tip_after (Some (end_of move)) moves
+abbrev pub IsStepPlan : Job → StepJob → List Pass → Tip → List Move → Type 0
+IsStepPlan job step passes tip moves = IsPlanBy job step passes tip moves step.way step.outline.shape
 
--- the ways at feed of a step's moves from a tip
-abbrev pub IsFedBy : Step → Option Pt3 → List Move → Cuttings
-IsFedBy step tip moves way = (before : List Move) × (after : List Move) × (moves ≡ before ++ FeedTo way.to ∷ after)
-    × (tip_after tip before ≡ Some way.from) × (way.body ≡ step.body)
-
-abbrev pub Either : Cuttings → Cuttings → Cuttings
-Either some others way = some way ⊎ others way
-
--- the tip before a step: it is known where the step's tool is in the spindle already
-abbrev pub tip_for : ℕ → Option Pt3 → Step → Option Pt3
-tip_for tool tip step = if tool == step.tool then tip else None
+-- the passes of moves from a tip, each from where the move before it ends
+abbrev pub passes_by : Body → Tip → List Move → List Pass
+passes_by body tip [] = []
+passes_by body tip (Rapid p ∷ moves) = passes_by body (tip_after tip p) moves
+passes_by body Unknown (Feed p ∷ moves) = passes_by body (Height p.z) moves
+passes_by body (Height z) (Feed p ∷ moves) = passes_by body (At p) moves
+passes_by body (At from) (Feed p ∷ moves) = record { body = body; from = from; to = p } ∷ passes_by body (At p) moves
 
 -- The moves of the steps, one list for each, from a tool in the spindle and a tip: what earlier steps cut is gone for
 -- the later ones, and a step without moves leaves the tool where it is.
-abbrev pub ArePlans : Job → Cuttings → ℕ → Option Pt3 → List (Step × List Move) → Type 0
-ArePlans job ways tool tip [] = Unit {0}
-ArePlans job ways tool tip ((step, []) ∷ later) = IsStepPlan job step ways (tip_for tool tip step) [] × ArePlans job ways tool tip later
-ArePlans job ways tool tip ((step, move ∷ moves) ∷ later) =
-    IsStepPlan job step ways (tip_for tool tip step) (move ∷ moves)
-    × ArePlans job (Either ways (IsFedBy step (tip_for tool tip step) (move ∷ moves))) step.tool (tip_after (tip_for tool tip step) (move ∷ moves)) later
+abbrev pub ArePlans : Job → List Pass → Option ℕ → Tip → List (StepJob × List Move) → Type 0
+ArePlans job passes tool tip [] = Unit {0}
+ArePlans job passes tool tip ((step, []) ∷ later) = IsStepPlan job step passes (tip_for job tool tip step) [] × ArePlans job passes tool tip later
+ArePlans job passes tool tip ((step, move ∷ moves) ∷ later) =
+    IsStepPlan job step passes (tip_for job tool tip step) (move ∷ moves)
+    × ArePlans job (passes ++ passes_by step.body (tip_for job tool tip step) (move ∷ moves)) (Some step.tool) (tip_after_moves (tip_for job tool tip step) (move ∷ moves)) later
 
 -- The plan of a job: each of its steps in order, with its moves. At the start no tool is in the spindle.
-pub record IsPlan (job : Job) (plan : List (Step × List Move)) : Type 0 where
+pub record IsPlan (job : Job) (plan : List (StepJob × List Move)) : Type 0 where
   pub steps : map (λ planned. planned.0) plan ≡ job.steps
-  pub moves : ArePlans job (λ way. ⊥) 0 None plan
+  pub moves : ArePlans job [] None Unknown plan

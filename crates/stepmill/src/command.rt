@@ -1,16 +1,14 @@
 //! What the words ask for.
-ghost use Rattle.std.specs.Prelude.{◌≡◌, ℕ, ◌≤◌, ◌<◌, ◌^◌, ◌↔◌, List, SomeIff, slice_get, IsTrue, IfOk, IfErr, IfSome, IfNone};
+ghost use Rattle.std.specs.Prelude.{◌≡◌, ℕ, ◌<◌, ◌^◌, ◌↔◌, List, SomeIff, slice_get, IsTrue, IfOk, IfErr, IfSome, IfNone};
 ghost use Rattle.std.specs.Str.Parse.{IsNumeral, digits_value};
-ghost use Rattle.stepmill.specs.Command.{IsCommand, IsFileWord, IsPitchWord, IsPitch, DepartsAt};
+ghost use Rattle.sn_outline.specs.JobRule.{IsPitch};
+ghost use Rattle.stepmill.specs.Command.{IsCommand, IsFileWord, IsPitchWord, DepartsAt};
 
 use crate::words::Words;
-use sn_geom::PER_MM;
+use sn_geom::{LEAST_PITCH, MOST_PITCH, PER_MM};
 
-/// The least pitch of the grid, in units of length.
-pub const LEAST_PITCH: u32 = 20 * PER_MM / 1_000;
-
-/// The greatest pitch of the grid, in units of length.
-pub const GREATEST_PITCH: u32 = 2_000 * PER_MM / 1_000;
+/// Length units in a micrometre.
+const PER_MICROMETRE: u32 = PER_MM / 1_000;
 
 /// A command: the program of a part is wanted, at a pitch of the grid.
 #[derive(Clone, Copy)]
@@ -66,6 +64,7 @@ fn file_word(words: &Words, k: usize) -> Option<&[u8]>
     }
 }
 
+/// The pitch in units of length that the word at place `k` gives in whole micrometres.
 fn pitch_word(words: &Words, k: usize) -> Option<u32>
     ensures some { IfSome result (λ pitch. (word : List ℕ) × (slice_get words.now k ≡ Some word) × IsPitchWord word pitch) }
     ensures none { IfNone result ((word : List ℕ) (pitch : ℕ) → slice_get words.now k ≡ Some word → ¬ IsPitchWord word pitch) }
@@ -73,14 +72,14 @@ fn pitch_word(words: &Words, k: usize) -> Option<u32>
     if k >= words.len() {
         return None;
     }
-    let pitch = digits(words.get(k))?;
+    let pitch = digits(words.get(k))?.checked_mul(PER_MICROMETRE)?;
     if is_pitch(pitch) { Some(pitch) } else { None }
 }
 
 fn is_pitch(value: u32) -> bool
     ensures { IsTrue result ↔ IsPitch value }
 {
-    LEAST_PITCH <= value && value <= GREATEST_PITCH
+    LEAST_PITCH <= value && value <= MOST_PITCH
 }
 
 /// The value of a word of digits, where it is below 2^32.

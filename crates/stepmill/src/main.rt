@@ -2,18 +2,18 @@
 #![tactic(auto)]
 
 mod command;
-mod grid;
+mod hole;
+mod judge;
 mod laws;
-mod part;
-mod program;
+mod moves;
 mod reading;
 mod refusal;
 mod run;
-mod seen;
 mod status;
 #[cfg(test)]
 mod tests;
 mod words;
+mod writer;
 
 pub use run::run;
 use sn_geom::Memory;
@@ -29,20 +29,15 @@ fn main(rt: HostRuntime) -> ExitCode {
         Ok(words) => carry_out(&rt, &words),
         Err(status) => status,
     };
-    ExitCode::from(status as u8)
+    ExitCode::from(status.code())
 }
 
 /// The words of the command line after the program's name, as text.
 fn words_of(rt: &HostRuntime) -> Result<Words, Status> {
     let mut words = Words::new(rt.alloc());
-    let Ok(args) = env::args(rt) else {
-        return Err(Status::BadWords);
-    };
+    let args = env::args(rt).map_err(|error| Status::of_lost_words(error.kind()))?;
     for arg in args.skip(1) {
-        match words.push(arg.as_str().as_bytes()) {
-            Ok(()) => {}
-            Err(Memory) => return Err(Status::Memory),
-        }
+        words.push(arg.as_str().as_bytes())?;
     }
     Ok(words)
 }
@@ -72,9 +67,5 @@ fn run_over(
     let status = run(rt.alloc(), words, &mut files, &mut out, &mut err);
     let written = out.finish().is_ok();
     let told = err.finish().is_ok();
-    if written && told {
-        status
-    } else {
-        Status::WriteFault
-    }
+    status.handed_over(written, told)
 }

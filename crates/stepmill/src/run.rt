@@ -1,16 +1,17 @@
 //! The top call.
-ghost use Rattle.std.specs.Prelude.{◌≡◌, ◌≢◌, ◌⊎◌, ℕ, ◌+◌, ◌≤◌, [], IsTrue, IfOk, IfErr};
+ghost use Rattle.std.specs.Prelude.{◌≡◌, ◌≢◌, ◌⊎◌, ◌+◌, ◌≤◌, IsTrue, IfOk, IfErr};
 ghost use Rattle.sn_io.specs.Count.{Rises, count_after};
 ghost use Rattle.sn_io.specs.Sink.{Takes, TakesFront};
-ghost use Rattle.stepmill.specs.Command.{DepartsAt, IsAccepted, IsPitch};
-ghost use Rattle.stepmill.specs.Good.{Good};
-ghost use Rattle.stepmill.specs.OneHole.{IsBuilt, hole_job};
-ghost use Rattle.stepmill.specs.Outcome.{Ends, Explains, IsOfDevices, IsRefusedFile, IsSound, IsSoundPart, ReadsOnce, Stops, hole_program, refusal_text};
+ghost use Rattle.sn_outline.specs.Job.{Job};
+ghost use Rattle.sn_outline.specs.JobRule.{IsPitch};
+ghost use Rattle.stepmill.specs.hole.OneHole.{IsBuilt, IsSeen, hole_job, hole_plan};
+ghost use Rattle.stepmill.specs.Outcome.{Compiles, Ends, Explains, IsJobOf, IsOfDevices, IsPrepared, IsReadOf, IsRefusedFile, ReadsOnce, Refuses, Stops};
+ghost use Rattle.stepmill.specs.Text.{program_text};
 
 use crate::command::read_command;
-use crate::part::{judge, sound_or_refused};
-use crate::program::write_program;
-use crate::reading::{LONGEST, ReadRefusal, read_part};
+use crate::hole::program::write_program;
+use crate::judge::{judge, sound_or_refused};
+use crate::reading::{LONGEST, read_part};
 use crate::refusal::{Refusal, refuse};
 use crate::status::Status;
 use crate::words::Words;
@@ -35,32 +36,31 @@ pub fn run<F: Files, S: Sink, E: Sink>(
 ) -> Status
     // Memory and devices apart, the status and the texts are those of the outcome.
     ensures outcome { IsTrue (F.state files.old).tells → ¬ IsOfDevices result
-        → Ends words.now (λ name. (F.state files.old).given name 0) result (S.state out.old) (S.state out.new) (E.state err.old) (E.state err.new) }
+        → Ends words.now (F.state files.old).given result
+        (S.state out.old) (S.state out.new) (E.state err.old) (E.state err.new) }
 
-    // The program that was written is good for the job of the part.
-    ensures good { result ≡ Status.Done → (part : Plain) × (pitch : ℕ)
-        × (IsTrue (F.state files.old).tells → IsSound words.now (λ name. (F.state files.old).given name 0) part pitch)
-        × Takes (S.state out.old) (S.state out.new) (hole_program part pitch)
-        × Good (hole_job part pitch) (hole_program part pitch) }
+    // What was written is the program of the part's job, and it is good for that job.
+    ensures good { result ≡ Status.Done
+        → Compiles words.now (F.state files.old)
+        (S.state out.old) (S.state out.new) (E.state err.old) (E.state err.new) }
 
     // A sound part is compiled, unless memory is wanting or a device fails.
-    ensures completes { IsTrue (F.state files.old).tells → (part : Plain) (pitch : ℕ)
-        → IsSound words.now (λ name. (F.state files.old).given name 0) part pitch → (result ≡ Status.Done) ⊎ IsOfDevices result }
+    ensures completes { IsTrue (F.state files.old).tells → (job : Job)
+        → IsJobOf words.now (F.state files.old).given job → (result ≡ Status.Done) ⊎ IsOfDevices result }
 
-    // Each status that memory or a device gives has its cause.
-    ensures read_fault { result ≡ Status.ReadFault → Rises (F.state files.old).faults (F.state files.new).faults }
-    ensures write_fault { result ≡ Status.WriteFault → (Rises (S.state out.old).faults (S.state out.new).faults) ⊎ (Rises (E.state err.old).faults (E.state err.new).faults) }
-    ensures stopped { result ≡ Status.WriteFault → Stops words.now (F.state files.old) (F.state files.new) (S.state out.old) (S.state out.new) (E.state err.old) (E.state err.new) }
-    ensures read_fault_told { result ≡ Status.ReadFault → Takes (E.state err.old) (E.state err.new) (refusal_text Refusal.NotRead) }
-    ensures memory_told { result ≡ Status.Memory → Takes (E.state err.old) (E.state err.new) (refusal_text Refusal.NoMemory) }
+    // Each refusal has its cause, and is told.
+    ensures refused { result ≢ Status.Done → result ≢ Status.WriteFault
+        → Refuses words.now (F.state files.old) (F.state files.new) result
+        (S.state out.old) (S.state out.new) (E.state err.old) (E.state err.new) }
 
-    // Words that are no command are refused whatever the files are, and no others.
-    ensures departs { result ≡ Status.BadWords → (place : ℕ) × DepartsAt words.now place × Takes (E.state err.old) (E.state err.new) (refusal_text (Refusal.Word place)) }
-    ensures accepted { result ≢ Status.BadWords → result ≢ Status.WriteFault → IsAccepted words.now }
-    ensures unopened { result ≡ Status.BadWords → F.state files.new ≡ F.state files.old }
+    // A write that failed has its cause, and stopped a text that was to be written.
+    ensures write_fault { result ≡ Status.WriteFault
+        → (Rises (S.state out.old).faults (S.state out.new).faults)
+        ⊎ (Rises (E.state err.old).faults (E.state err.new).faults) }
+    ensures stopped { result ≡ Status.WriteFault
+        → Stops words.now (F.state files.old) (F.state files.new)
+        (S.state out.old) (S.state out.new) (E.state err.old) (E.state err.new) }
 
-    // What stays as it was.
-    ensures untouched { result ≢ Status.Done → result ≢ Status.WriteFault → Takes (S.state out.old) (S.state out.new) [] }
     ensures reads_once { ReadsOnce words.now (F.state files.old) (F.state files.new) }
 {
     sound_or_refused();
@@ -73,8 +73,10 @@ pub fn run<F: Files, S: Sink, E: Sink>(
 fn write<S: Sink>(out: &mut S, prepared: &Prepared) -> Status
     requires { IsBuilt prepared.now.part prepared.now.pitch }
     ensures either { (result ≡ Status.Done) ⊎ (result ≡ Status.WriteFault) }
-    ensures done { result ≢ Status.WriteFault → (result ≡ Status.Done) × Takes (S.state out.old) (S.state out.new) (hole_program prepared.now.part prepared.now.pitch) }
-    ensures stopped { result ≡ Status.WriteFault → TakesFront (S.state out.old) (S.state out.new) (hole_program prepared.now.part prepared.now.pitch) }
+    ensures done { result ≢ Status.WriteFault → (result ≡ Status.Done)
+        × Takes (S.state out.old) (S.state out.new) (program_text (hole_job prepared.now.part prepared.now.pitch) (hole_plan prepared.now.part prepared.now.pitch)) }
+    ensures stopped { result ≡ Status.WriteFault
+        → TakesFront (S.state out.old) (S.state out.new) (program_text (hole_job prepared.now.part prepared.now.pitch) (hole_plan prepared.now.part prepared.now.pitch)) }
 {
     match write_program(out, &prepared.part, prepared.pitch) {
         Ok(()) => Status::Done,
@@ -83,9 +85,8 @@ fn write<S: Sink>(out: &mut S, prepared: &Prepared) -> Status
 }
 
 fn prepare<F: Files>(alloc: Global, words: &Words, files: &mut F) -> Result<Prepared, Refusal>
-    ensures sound { IfOk result (λ prepared. IsTrue (F.state files.old).tells → IsSound words.now (λ name. (F.state files.old).given name 0) prepared.part prepared.pitch) }
+    ensures prepared { IfOk result (λ prepared. IsPrepared words.now (F.state files.old) (hole_job prepared.part prepared.pitch) (hole_plan prepared.part prepared.pitch)) }
     ensures built { IfOk result (λ prepared. IsBuilt prepared.part prepared.pitch) }
-    ensures accepted { IfOk result (λ _. IsAccepted words.now) }
     ensures explains { IfErr result (Explains words.now (F.state files.old) (F.state files.new)) }
     ensures reads_once { ReadsOnce words.now (F.state files.old) (F.state files.new) }
 {
@@ -102,20 +103,18 @@ fn load<F: Files>(
     pitch: u32,
 ) -> Result<Prepared, Refusal>
     requires { IsPitch pitch }
-    ensures sound { IfOk result (λ prepared. (prepared.pitch ≡ pitch) × (IsTrue (F.state files.old).tells → IsSoundPart ((F.state files.old).given name.now 0) pitch prepared.part)) }
-    ensures built { IfOk result (λ prepared. IsBuilt prepared.part prepared.pitch) }
+    ensures pitch { IfOk result (λ prepared. prepared.pitch ≡ pitch) }
+    ensures sound { IfOk result (λ prepared. IsReadOf (F.state files.old) name.now pitch (hole_job prepared.part pitch)) }
+    ensures built { IfOk result (λ prepared. IsBuilt prepared.part pitch) }
+    ensures seen { IfOk result (λ prepared. IsSeen prepared.part pitch) }
     ensures refused { IfErr result (IsRefusedFile (F.state files.old) (F.state files.new) name.now pitch) }
     ensures opens { (F.state files.new).opens ≡ count_after (F.state files.old).opens 1 }
     ensures reads { (F.state files.new).reads ≤ (F.state files.old).reads + LONGEST + 2 }
+    ensures bytes { (F.state files.new).bytes ≤ count_after (F.state files.old).bytes (LONGEST + 1) }
     ensures no_strange { IsTrue (F.state files.old).tells → IsTrue ((F.state files.old).has_file name.now)
         → (F.state files.new).strange_opens ≡ (F.state files.old).strange_opens }
 {
-    match read_part(alloc, files, name) {
-        Ok(bytes) => match judge(alloc, bytes.as_slice(), pitch) {
-            Ok(part) => Ok(Prepared { part, pitch }),
-            Err(refusal) => Err(refusal),
-        },
-        Err(ReadRefusal::Fault) => Err(Refusal::NotRead),
-        Err(ReadRefusal::Memory) => Err(Refusal::NoMemory),
-    }
+    let bytes = read_part(alloc, files, name)?;
+    let part = judge(alloc, bytes.as_slice(), pitch)?;
+    Ok(Prepared { part, pitch })
 }

@@ -1,11 +1,16 @@
 //! How a command ends.
+ghost use Rattle.std.specs.Prelude.{◌≡◌, ◌≢◌};
+ghost use Rattle.stepmill.specs.Exit.{exit_status, final_status};
+
+use sn_geom::Memory;
+use std::io::ErrorKind;
 
 /// The status of a command.
 #[derive(Clone, Copy, Debug, PartialEq, Eq)]
 pub enum Status {
     /// The command was carried out.
     Done = 0,
-    /// The part's text, table, references or job are refused.
+    /// The part's text or form is refused.
     PartRefused = 1,
     /// The words are no command.
     BadWords = 2,
@@ -15,10 +20,52 @@ pub enum Status {
     WriteFault = 4,
     /// Memory was wanting.
     Memory = 5,
-    /// The verdict is no.
+    /// The verdict is no. Not answered yet.
     No = 6,
-    /// A cell that has to be cut cannot be reached.
+    /// A cell that has to be cut cannot be reached. Not answered yet.
     Uncovered = 7,
-    /// The part or the program is too long.
+    /// The part is too long.
     TooLong = 8,
+}
+
+impl Status {
+    /// The exit status of the program.
+    pub fn code(self) -> u8
+        ensures { result ≡ exit_status self }
+    {
+        self as u8
+    }
+
+    /// What is left of a status where the output and the errors are handed over whole, or are not.
+    pub fn handed_over(self, written: bool, told: bool) -> Status
+        ensures { result ≡ final_status self written told }
+    {
+        if written && told {
+            self
+        } else {
+            Status::WriteFault
+        }
+    }
+
+    /// The status where the arguments of the program cannot be had: they are no text, or memory is wanting.
+    pub fn of_lost_words(kind: ErrorKind) -> Status
+        ensures memory { kind ≡ ErrorKind.OutOfMemory → result ≡ Status.Memory }
+        ensures words { kind ≢ ErrorKind.OutOfMemory → result ≡ Status.BadWords }
+    {
+        match kind {
+            ErrorKind::OutOfMemory => Status::Memory,
+            _ => Status::BadWords,
+        }
+    }
+}
+
+impl From<Memory> for Status {
+    ghost use Rattle.std.specs.Prelude.{◌≡◌};
+    ghost use Rattle.stepmill.specs.declared.status.Status.TheVariants.{Memory};
+
+    ghost from_gives = { λ _ status. status ≡ Memory };
+
+    fn from(_error: sn_geom::Memory) -> Status {
+        Status::Memory
+    }
 }

@@ -8,8 +8,8 @@ use crate::{Status, Words, run};
 use sn_io::{MemFiles, MemSink};
 use std::test::Fail;
 
-/// The sample part, cut at the steps of its workplan and at the diameters of the hole and of the tool.
-const BEFORE_STEPS: &str = "ISO-10303-21;
+/// The sample part: data/one.stp, the stored input of the program.
+const SAMPLE: &str = "ISO-10303-21;
 HEADER;
 FILE_DESCRIPTION(('one hole'),'1');
 FILE_NAME('one.stp','2024-01-01',('a'),('b'),'','','');
@@ -17,9 +17,7 @@ FILE_SCHEMA(('MACHINING_SCHEMA','MILLING_SCHEMA'));
 ENDSEC;
 DATA;
 #1=PROJECT('one',#2,(#3),$,$,$);
-#2=WORKPLAN('main',(";
-
-const BEFORE_HOLE: &str = "),$,#5,$);
+#2=WORKPLAN('main',(#4),$,#5,$);
 #3=WORKPIECE('block',$,$,$,$,#6,());
 #4=MACHINING_WORKINGSTEP('hole',#7,#8,#9,$);
 #5=SETUP('setup',$,#7,(#10));
@@ -32,45 +30,7 @@ const BEFORE_HOLE: &str = "),$,#5,$);
 #12=AXIS2_PLACEMENT_3D('security',#20,$,$);
 #13=AXIS2_PLACEMENT_3D('hole',#21,$,$);
 #14=PLANE('depth',#22);
-#15=TOLERANCED_LENGTH_MEASURE(";
-
-const BEFORE_TOOL: &str = ",$);
-#16=FLAT_HOLE_BOTTOM();
-#17=CUTTING_TOOL('mill 8',#23,(),80.,$,$);
-#18=MILLING_TECHNOLOGY(0.005,.TCP.,$,-12.,$,.F.,.F.,.F.,$);
-#19=CARTESIAN_POINT('',(0.,0.,0.));
-#20=CARTESIAN_POINT('',(0.,0.,20.));
-#21=CARTESIAN_POINT('',(10.,10.,10.));
-#22=AXIS2_PLACEMENT_3D('depth',#24,$,$);
-#23=ENDMILL(#25,4,.RIGHT.,.F.,$,$);
-#24=CARTESIAN_POINT('',(0.,0.,-6.));
-#25=MILLING_TOOL_DIMENSION(";
-
-const AFTER_TOOL: &str = ",$,$,20.,0.,$,$);
-ENDSEC;
-END-ISO-10303-21;
-";
-
-/// The front of a text, up to its instances.
-const OPENING: &str =
-    "ISO-10303-21;HEADER;FILE_DESCRIPTION();FILE_NAME();FILE_SCHEMA();ENDSEC;DATA;";
-
-/// The instances of the sample part in another layout, with parentheses around one of them and integers for reals.
-const LOOSE: &str = "#01 = PROJECT ( 'one' , #2 , (#3) , $ , $ , $ ) ; /* the project */
-#2=WORKPLAN('main',(#4),$,#5,$);
-#3=WORKPIECE('block',$,$,$,$,#6,());
-#4=MACHINING_WORKINGSTEP('hole',#7,#8,#9,$);
-#5=SETUP('setup',$,#7,(#10));
-#6=(BLOCK('raw',#11,20,+20.0,10.E0));
-#7=PLANE('security',#12);
-#8=ROUND_HOLE('hole',#3,(#9),#13,#14,#15,$,#16);
-#9=DRILLING($,$,'plunge',$,$,#17,#18,$,$,$,$,$,$,$);
-#10=WORKPIECE_SETUP(#3,#11,$,$,());
-#11=AXIS2_PLACEMENT_3D('origin',#19,$,$);
-#12=AXIS2_PLACEMENT_3D('security',#20,$,$);
-#13=AXIS2_PLACEMENT_3D('hole',#21,$,$);
-#14=PLANE('depth',#22);
-#15=TOLERANCED_LENGTH_MEASURE(8,$);
+#15=TOLERANCED_LENGTH_MEASURE(8.,$);
 #16=FLAT_HOLE_BOTTOM();
 #17=CUTTING_TOOL('mill 8',#23,(),80.,$,$);
 #18=MILLING_TECHNOLOGY(0.005,.TCP.,$,-12.,$,.F.,.F.,.F.,$);
@@ -81,7 +41,29 @@ const LOOSE: &str = "#01 = PROJECT ( 'one' , #2 , (#3) , $ , $ , $ ) ; /* the pr
 #23=ENDMILL(#25,4,.RIGHT.,.F.,$,$);
 #24=CARTESIAN_POINT('',(0.,0.,-6.));
 #25=MILLING_TOOL_DIMENSION(8.,$,$,20.,0.,$,$);
-ENDSEC;END-ISO-10303-21;";
+ENDSEC;
+END-ISO-10303-21;
+";
+
+/// The front of a text, up to its instances.
+const OPENING: &str =
+    "ISO-10303-21;HEADER;FILE_DESCRIPTION();FILE_NAME();FILE_SCHEMA();ENDSEC;DATA;";
+
+/// Lines of the sample part, and the same in another layout, with parentheses around an instance and an integer for a real.
+const LOOSE: [(&str, &str); 3] = [
+    (
+        "#1=PROJECT('one',#2,(#3),$,$,$);",
+        "#01 = PROJECT ( 'one' , #2 , (#3) , $ , $ , $ ) ; /* the project */",
+    ),
+    (
+        "#6=BLOCK('raw',#11,20.,20.,10.);",
+        "#6=(BLOCK('raw',#11,20,+20.0,10.E0));",
+    ),
+    ("(8.,$);", "(8,$);"),
+];
+
+/// The command over the sample part, at a pitch of one millimetre.
+const COMPILE: &str = "compile one.stp --cell 1000";
 
 /// The program of the sample part at a pitch of one millimetre.
 const PROGRAM: &str = "%
@@ -101,17 +83,11 @@ M2
 %
 ";
 
-/// The sample part with other steps and diameters.
-fn part(rt: &HostRuntime, steps: &str, diameter: &str) -> Result<Vec<u8>, Fail> {
-    let mut text = Vec::from_slice(rt.alloc(), BEFORE_STEPS.as_bytes())?;
-    text.extend_from_slice(steps.as_bytes())?;
-    text.extend_from_slice(BEFORE_HOLE.as_bytes())?;
-    text.extend_from_slice(diameter.as_bytes())?;
-    text.extend_from_slice(BEFORE_TOOL.as_bytes())?;
-    text.extend_from_slice(diameter.as_bytes())?;
-    text.extend_from_slice(AFTER_TOOL.as_bytes())?;
-    Ok(text)
-}
+/// The calls of the sample's file: the opening, the reading of its one chunk, and the reading at its end.
+const CALLS: u64 = 3;
+
+/// The writes of the sample's program.
+const WRITES: u64 = 11;
 
 /// A command over one file `one.stp`, a call of which and a write of whose output may fail: its status, output and errors.
 fn ends(
@@ -143,9 +119,8 @@ fn ends(
 
 #[test]
 fn commands_end_with_their_outcome(rt: HostRuntime) -> Result<(), Fail> {
-    let sample = part(&rt, "#4", "8.")?;
-    let small = part(&rt, "#4", "3.")?;
-    let no_steps = part(&rt, "", "8.")?;
+    let small = SAMPLE.replace(rt.alloc(), "(8.,$", "(3.,$")?;
+    let no_steps = SAMPLE.replace(rt.alloc(), "(#4)", "()")?;
     let long = vec![in rt.alloc(); b' '; LONGEST + 1]?;
     let mut deep = Vec::from_slice(rt.alloc(), OPENING.as_bytes())?;
     deep.extend_from_slice(b"#1=A")?;
@@ -153,73 +128,64 @@ fn commands_end_with_their_outcome(rt: HostRuntime) -> Result<(), Fail> {
         deep.push(b'(')?;
     }
     let again = format!(in rt.alloc(); "{OPENING}#1=A();#01=B();")?;
-    let loose = format!(in rt.alloc(); "{OPENING}{}", LOOSE)?;
+    let mut loose = String::from_str(rt.alloc(), SAMPLE)?;
+    for (line, other) in LOOSE {
+        loose = loose.as_str().replace(rt.alloc(), line, other)?;
+    }
     let rows = [
-        (
-            "compile one.stp --cell 1000",
-            sample.as_slice(),
-            Status::Done,
-            PROGRAM,
-            "",
-        ),
+        (COMPILE, SAMPLE.as_bytes(), Status::Done, PROGRAM, ""),
         (
             "compile one.stp --cell 01000",
-            sample.as_slice(),
+            SAMPLE.as_bytes(),
             Status::Done,
             PROGRAM,
             "",
         ),
         (
-            "compile one.stp --cell 1000",
-            small.as_slice(),
+            COMPILE,
+            small.as_bytes(),
             Status::PartRefused,
             "",
             "stepmill: part: #8 too small for the grid\n",
         ),
         (
-            "compile one.stp --cell 1000",
+            COMPILE,
             b"".as_slice(),
             Status::PartRefused,
             "",
             "stepmill: part: unexpected at 0\n",
         ),
         (
-            "compile one.stp --cell 1000",
+            COMPILE,
             deep.as_slice(),
             Status::PartRefused,
             "",
             "stepmill: part: too deep at 145\n",
         ),
         (
-            "compile one.stp --cell 1000",
+            COMPILE,
             again.as_bytes(),
             Status::PartRefused,
             "",
             "stepmill: part: #1 twice at 84\n",
         ),
         (
-            "compile one.stp --cell 1000",
+            COMPILE,
             b"ISO-10303-21;HEADER;FILE_DESCRIPTION(('a".as_slice(),
             Status::PartRefused,
             "",
             "stepmill: part: open string at 38\n",
         ),
+        (COMPILE, loose.as_bytes(), Status::Done, PROGRAM, ""),
         (
-            "compile one.stp --cell 1000",
-            loose.as_bytes(),
-            Status::Done,
-            PROGRAM,
-            "",
-        ),
-        (
-            "compile one.stp --cell 1000",
-            no_steps.as_slice(),
+            COMPILE,
+            no_steps.as_bytes(),
             Status::PartRefused,
             "",
             "stepmill: part: form not built\n",
         ),
         (
-            "compile one.stp --cell 1000",
+            COMPILE,
             long.as_slice(),
             Status::TooLong,
             "",
@@ -227,28 +193,28 @@ fn commands_end_with_their_outcome(rt: HostRuntime) -> Result<(), Fail> {
         ),
         (
             "compile one.stp --cell 19",
-            sample.as_slice(),
+            SAMPLE.as_bytes(),
             Status::BadWords,
             "",
             "stepmill: word 4\n",
         ),
         (
             "compile one.stp --cell 1000 x",
-            sample.as_slice(),
+            SAMPLE.as_bytes(),
             Status::BadWords,
             "",
             "stepmill: word 5\n",
         ),
         (
             "compile",
-            sample.as_slice(),
+            SAMPLE.as_bytes(),
             Status::BadWords,
             "",
             "stepmill: word 2\n",
         ),
         (
             "compile two.stp --cell 1000",
-            sample.as_slice(),
+            SAMPLE.as_bytes(),
             Status::ReadFault,
             "",
             "stepmill: read fault\n",
@@ -275,16 +241,9 @@ fn first_fault(length: usize) -> (&'static str, usize) {
 
 #[test]
 fn prefixes_end_with_their_first_fault(rt: HostRuntime) -> Result<(), Fail> {
-    let sample = part(&rt, "#4", "8.")?;
-    for length in 0..sample.len().saturating_sub(1) {
+    for length in 0..SAMPLE.len().saturating_sub(1) {
         let (words, at) = first_fault(length);
-        let (ended, _, told) = ends(
-            &rt,
-            "compile one.stp --cell 1000",
-            &sample[..length],
-            None,
-            None,
-        )?;
+        let (ended, _, told) = ends(&rt, COMPILE, &SAMPLE.as_bytes()[..length], None, None)?;
         let expected = format!(in rt.alloc(); "stepmill: part: {words} at {at}\n")?;
         assert_eq!(rt; ended, Status::PartRefused);
         assert_eq!(rt; told.as_slice(), expected.as_bytes());
@@ -294,30 +253,20 @@ fn prefixes_end_with_their_first_fault(rt: HostRuntime) -> Result<(), Fail> {
 
 #[test]
 fn faults_of_devices_end_it(rt: HostRuntime) -> Result<(), Fail> {
-    let sample = part(&rt, "#4", "8.")?;
-    for call in 1..4u64 {
-        let (ended, written, told) = ends(
-            &rt,
-            "compile one.stp --cell 1000",
-            sample.as_slice(),
-            Some(call),
-            None,
-        )?;
+    for call in 1..=CALLS {
+        let (ended, written, told) = ends(&rt, COMPILE, SAMPLE.as_bytes(), Some(call), None)?;
         assert_eq!(rt; ended, Status::ReadFault);
         assert_eq!(rt; written.as_slice(), b"".as_slice());
         assert_eq!(rt; told.as_slice(), b"stepmill: read fault\n".as_slice());
     }
-    for call in 1..10u64 {
-        let (ended, written, told) = ends(
-            &rt,
-            "compile one.stp --cell 1000",
-            sample.as_slice(),
-            None,
-            Some(call),
-        )?;
+    for call in 1..=WRITES {
+        let (ended, written, told) = ends(&rt, COMPILE, SAMPLE.as_bytes(), None, Some(call))?;
         assert_eq!(rt; ended, Status::WriteFault);
         assert!(rt; PROGRAM.as_bytes().starts_with(written.as_slice()));
         assert_eq!(rt; told.as_slice(), b"".as_slice());
     }
+    let (ended, written, _) = ends(&rt, COMPILE, SAMPLE.as_bytes(), None, Some(WRITES + 1))?;
+    assert_eq!(rt; ended, Status::Done);
+    assert_eq!(rt; written.as_slice(), PROGRAM.as_bytes());
     Ok(())
 }

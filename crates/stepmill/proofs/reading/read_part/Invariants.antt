@@ -13,6 +13,7 @@ invariant-loop-bytes g l =
       faults : before.faults ≤ now.faults;
       opens : now.opens ≡ count_after before.opens 1;
       reads : now.reads ≤ before.reads + length l.bytes.items;
+      bytes : now.bytes ≡ count_after before.bytes (length l.bytes.items);
       short : length l.bytes.items ≤ LONGEST + 1;
       content : IsTrue before.tells → before.given l.fn.name 0 ≡ l.bytes.items ++ now.left;
       no_strange : IsTrue before.tells → IsTrue (before.has_file l.fn.name) → now.strange_opens ≡ before.strange_opens;

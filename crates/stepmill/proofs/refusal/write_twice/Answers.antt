@@ -1,19 +1,12 @@
-use Rattle.std.proofs.Common.{refl}
-use Rattle.sn_gwrite.proofs.Pieces.{writes-first, writes-later}
+use Rattle.std.specs.Prelude.{codes}
+use Rattle.stepmill.specs.FaultText.{placed_text}
+use Rattle.stepmill.proofs.RefusalLemmas.{number-first, number-later}
 use Rattle.stepmill.proofs.refusal.write_twice.Goals as goal
 
-pub returns-in_err-write_all : goal.returns-in_err-write_all
-returns-in_err-write_all g c =
-    writes-first c.from_residual.result _ _ _ _ _ c.from_residual.ensures.0 refl c.in_err-write_all.ensures
-
-pub returns-in_err-write_all-2 : goal.returns-in_err-write_all-2
-returns-in_err-write_all-2 g c =
-    let result = c.from_residual-in_err-write_all-2.result in
-    writes-later result _ _ _ _ _ _ refl c.in_ok-write_all.ensures
-    (writes-first result _ _ _ _ _ c.from_residual-in_err-write_all-2.ensures.0 refl (rw (c.as_bytes.ensures.value, c.format.ensures.text) at c.in_err-write_all-2.ensures))
+pub returns-in_err-write_number : goal.returns-in_err-write_number
+returns-in_err-write_number g c =
+    number-first c.from_residual.result _ _ (codes "stepmill: part: #") (placed_text (codes " twice at ") c.args.at) c.args.number c.from_residual.ensures.0 c.in_err-write_number.ensures
 
 pub returns : goal.returns
 returns g c =
-    let result = c.write_place.result in
-    writes-later result _ _ _ _ _ _ refl c.in_ok-write_all.ensures
-    (writes-later result _ _ _ _ _ _ refl (rw (c.as_bytes.ensures.value, c.format.ensures.text) at c.in_ok-write_all-2.ensures) c.write_place.ensures)
+    number-later c.write_place.result _ _ _ (codes "stepmill: part: #") (placed_text (codes " twice at ") c.args.at) c.args.number c.in_ok-write_number.ensures c.write_place.ensures

@@ -1,27 +1,24 @@
-use Rattle.std.proofs.Common.{[], refl, sym, subst, inl, inr, ◌∙◌}
+use Rattle.std.proofs.Common.{[], refl, sym, subst, inl, inr}
 use Rattle.sn_io.proofs.SinkLemmas.{takes-nothing}
-use Rattle.stepmill.specs.Outcome.{IsOfDevices, IsOutcome, hole_program, refusal_text}
+use Rattle.stepmill.specs.hole.OneHole.{hole_job, hole_plan}
+use Rattle.stepmill.specs.Outcome.{IsOfDevices, refusal_text}
+use Rattle.stepmill.specs.Outcome.IsOutcome.{compiled, turned_down}
 use Rattle.stepmill.specs.Outcome.Stops.{at_message, at_program}
-use Rattle.stepmill.proofs.GoodLemmas.{hole_is_good}
-use Rattle.stepmill.proofs.RunningLemmas.{refused_outcome, never_done}
-use Rattle.stepmill.proofs.SoundLemmas.{sound_not_refused}
+use Rattle.stepmill.specs.Text.{program_text}
+use Rattle.stepmill.proofs.hole.GoodLemmas.{hole_is_good}
+use Rattle.stepmill.proofs.OutcomeLemmas.{refusal_or_device, job_not_refused, prepared_job}
 use Rattle.stepmill.proofs.run.run.Goals as goal
-
-pub returns-in-Ok-clause-stopped : goal.returns-in-Ok-clause-stopped
-returns-in-Ok-clause-stopped g c = λ stopped.
-    at_program c.in-Ok.prepared.part c.in-Ok.prepared.pitch c.in-Ok.ensures.built c.in-Ok.ensures.sound (c.write.ensures.stopped stopped) (takes-nothing _)
 
 pub returns-in-Ok-clause-outcome : goal.returns-in-Ok-clause-outcome
 returns-in-Ok-clause-outcome g c = λ tells devices.
-    let state = g.F.Files.state in
-    let part = c.in-Ok.prepared.part in
-    let pitch = c.in-Ok.prepared.pitch in
+    let job = hole_job c.in-Ok.prepared.part c.in-Ok.prepared.pitch in
+    let plan = hole_plan c.in-Ok.prepared.part c.in-Ok.prepared.pitch in
+    let known = c.in-Ok.ensures.prepared in
     let written = c.write.ensures.done (λ e. devices (inr (inl e))) in
     record {
-      text = hole_program part pitch;
+      text = program_text job plan;
       message = [];
-      outcome = subst (λ status. IsOutcome c.args.words.now (λ name. (state c.args.files.now).given name 0) status (hole_program part pitch) []) (sym written.0)
-          (part, pitch, c.in-Ok.ensures.sound tells, refl, refl);
+      outcome = compiled job plan (prepared_job _ _ job plan tells known) known.planned written.0 refl refl;
       written = written.1;
       told = takes-nothing _;
     }
@@ -31,36 +28,43 @@ returns-in-Ok-clause-good g c = λ done.
     let part = c.in-Ok.prepared.part in
     let pitch = c.in-Ok.prepared.pitch in
     let written = c.write.ensures.done (λ stopped. cc (done, stopped)) in
-    (part, pitch, c.in-Ok.ensures.sound, written.1, hole_is_good part pitch c.in-Ok.ensures.built)
+    record {
+      job = hole_job part pitch;
+      plan = hole_plan part pitch;
+      prepared = c.in-Ok.ensures.prepared;
+      written = written.1;
+      untouched = refl;
+      good = hole_is_good part pitch c.in-Ok.ensures.built;
+    }
 
-pub returns-in-Err-clause-good : goal.returns-in-Err-clause-good
-returns-in-Err-clause-good g c = λ done.
-    let told = c.refuse.ensures.told (λ stopped. cc (done, stopped)) in
-    absurd (never_done c.in-Err.refusal (sym told.0 ∙ done))
+pub returns-in-Ok-clause-stopped : goal.returns-in-Ok-clause-stopped
+returns-in-Ok-clause-stopped g c = λ stopped.
+    at_program _ _ c.in-Ok.ensures.prepared (c.write.ensures.stopped stopped) refl
 
 pub returns-in-Err-clause-outcome : goal.returns-in-Err-clause-outcome
 returns-in-Err-clause-outcome g c = λ tells devices.
     let state = g.F.Files.state in
     let refusal = c.in-Err.refusal in
     let told = c.refuse.ensures.told (λ e. devices (inr (inl e))) in
-    record {
-      text = [];
-      message = refusal_text refusal;
-      outcome = subst (λ status. IsOutcome c.args.words.now (λ name. (state c.args.files.now).given name 0) status [] (refusal_text refusal)) (sym told.0)
-          (refused_outcome c.args.words.now (state c.args.files.now) (state c.prepare.new.files) refusal c.refuse.result tells told.0 devices c.in-Err.ensures.explains);
-      written = takes-nothing _;
-      told = told.1;
-    }
+    elim (refusal_or_device c.args.words.now (state c.args.files.now) (state c.prepare.new.files) refusal tells c.in-Err.ensures.explains) [
+      | inl why ↦ record {
+        text = [];
+        message = refusal_text refusal;
+        outcome = turned_down refusal why told.0 refl refl;
+        written = takes-nothing _;
+        told = told.1;
+      }
+      | inr device ↦ absurd (devices (subst IsOfDevices (sym told.0) device))
+    ]
 
 pub returns-in-Err-clause-stopped : goal.returns-in-Err-clause-stopped
-returns-in-Err-clause-stopped g c = λ stopped. at_message c.in-Err.refusal c.in-Err.ensures.explains (takes-nothing _) (c.refuse.ensures.stopped stopped)
-
-pub returns-in-Ok-clause-completes : goal.returns-in-Ok-clause-completes
-returns-in-Ok-clause-completes g c = λ tells part pitch sound.
-    elim c.write.ensures.either [ inl done ↦ inl done | inr stopped ↦ inr (inr (inl stopped)) ]
+returns-in-Err-clause-stopped g c = λ stopped. at_message c.in-Err.refusal c.in-Err.ensures.explains refl (c.refuse.ensures.stopped stopped)
 
 pub returns-in-Err-clause-completes : goal.returns-in-Err-clause-completes
-returns-in-Err-clause-completes g c = λ tells part pitch sound.
+returns-in-Err-clause-completes g c = λ tells job asked.
     let state = g.F.Files.state in
-    let devices = sound_not_refused c.sound_or_refused.ensures c.args.words.now (state c.args.files.now) (state c.prepare.new.files) part pitch c.in-Err.refusal tells sound c.in-Err.ensures.explains in
-    elim c.refuse.ensures.either [ inl same ↦ inr (subst IsOfDevices (sym same) devices) | inr stopped ↦ inr (inr (inl stopped)) ]
+    let before = state c.args.files.now in
+    elim (refusal_or_device c.args.words.now before (state c.prepare.new.files) c.in-Err.refusal tells c.in-Err.ensures.explains) [
+      | inl why ↦ absurd (job_not_refused c.sound_or_refused.ensures c.args.words.now before.given job c.in-Err.refusal asked why)
+      | inr device ↦ elim c.refuse.ensures.either [ inl same ↦ inr (subst IsOfDevices (sym same) device) | inr stopped ↦ inr (inr (inl stopped)) ]
+    ]

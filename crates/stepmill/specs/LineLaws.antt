@@ -1,0 +1,21 @@
+-- Laws of the lines of a program, and of the forms of line that are written.
+use Rattle.std.specs.Prelude.{◌≡◌, ◌+◌, ◌∷◌, pos, neg_ℤ, [], codes}
+use Rattle.sn_geom.specs.declared.limits.TheConstants.{REACH, MOST_TOOL, MOST_RATE}
+use Rattle.sn_geom.specs.Block.{lines_of}
+use Rattle.sn_gwrite.specs.Forms.{IsProper}
+use Rattle.sn_gwrite.specs.Forms.Form.{StepMark, ToolChange, LengthOffset, SpindleSpeed, FeedRate, HeightMotion, PlaneMotion}
+use Rattle.sn_geom.specs.declared.tip.MotionMode.TheVariants as mode
+
+-- a line feed ends a line, and bytes behind the last one are a line
+abbrev pub LinesAreSplit : Type 0
+LinesAreSplit =
+    (lines_of [] ≡ []) × (lines_of (codes "M2\n") ≡ codes "M2" ∷ []) × (lines_of (codes "%\n\nM2") ≡ codes "%" ∷ [] ∷ codes "M2" ∷ [])
+
+-- the greatest numbers of a line that is written
+abbrev pub WordsHaveLimits : Type 0
+WordsHaveLimits =
+    IsProper (ToolChange MOST_TOOL) × (¬ IsProper (ToolChange (MOST_TOOL + 1))) × IsProper (LengthOffset MOST_TOOL) × (¬ IsProper (LengthOffset (MOST_TOOL + 1)))
+    × IsProper (SpindleSpeed MOST_RATE) × (¬ IsProper (SpindleSpeed (MOST_RATE + 1))) × IsProper (FeedRate MOST_RATE) × (¬ IsProper (FeedRate (MOST_RATE + 1)))
+    × IsProper (StepMark 4294967295) × (¬ IsProper (StepMark 4294967296)) × (¬ IsProper (StepMark 0))
+    × IsProper (HeightMotion mode.Feed (neg_ℤ (pos REACH))) × (¬ IsProper (HeightMotion mode.Feed (pos (REACH + 1))))
+    × (¬ IsProper (PlaneMotion mode.Feed (pos (REACH + 1)) (pos 0))) × (¬ IsProper (PlaneMotion mode.Feed (pos 0) (pos (REACH + 1))))

@@ -1,0 +1,35 @@
+-- Laws of what a command ends with.
+use Rattle.std.specs.Prelude.{◌≡◌, ◌↔◌, ℕ, List}
+use Rattle.sn_io.specs.Files.{FilesState}
+use Rattle.sn_io.specs.Sink.{SinkState}
+use Rattle.sn_outline.specs.Job.{Job}
+use Rattle.stepmill.specs.declared.status.Status.{Status}
+use Rattle.stepmill.specs.declared.status.Status.TheVariants.{BadWords}
+use Rattle.stepmill.specs.declared.refusal.Refusal.{Refusal}
+use Rattle.stepmill.specs.Command.{IsAccepted, DepartsAt}
+use Rattle.stepmill.specs.Outcome.{IsJobOf, IsOutcome, IsRefusal, Refuses}
+
+-- words that are no command depart at one place
+abbrev pub OneDeparture : Type 0
+OneDeparture = (words : List (List ℕ)) (m n : ℕ) → DepartsAt words m → DepartsAt words n → m ≡ n
+
+-- words and files ask for one job
+abbrev pub OneJob : Type 0
+OneJob = (words : List (List ℕ)) (given : List ℕ → ℕ → List ℕ) (some other : Job) → IsJobOf words given some → IsJobOf words given other → some ≡ other
+
+-- words and files have one refusal
+abbrev pub OneRefusal : Type 0
+OneRefusal = (words : List (List ℕ)) (given : List ℕ → ℕ → List ℕ) (some other : Refusal) → IsRefusal words given some → IsRefusal words given other → some ≡ other
+
+-- words and files have one outcome: one status, one text for the output and one for the errors
+abbrev pub OneOutcome : Type 0
+OneOutcome =
+    (words : List (List ℕ)) (given : List ℕ → ℕ → List ℕ) (status other_status : Status) (text other_text message other_message : List ℕ)
+    → IsOutcome words given status text message → IsOutcome words given other_status other_text other_message
+    → (status ≡ other_status) × (text ≡ other_text) × (message ≡ other_message)
+
+-- a command that was refused ended with BadWords exactly where its words are no command
+abbrev pub BadWordsAreNoCommand : Type 0
+BadWordsAreNoCommand =
+    (words : List (List ℕ)) (before after : FilesState) (status : Status) (out out_after err err_after : SinkState)
+    → Refuses words before after status out out_after err err_after → ((status ≡ BadWords) ↔ (¬ IsAccepted words))

@@ -1,0 +1,3 @@
+pub mod OneHole
+pub mod OneHoleLaws
+pub mod Seen
