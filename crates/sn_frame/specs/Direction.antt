@@ -1,4 +1,4 @@
--- What directions along the coordinate axes stand for.
+-- MEANING: what directions along the coordinate axes stand for.
 use Rattle.std.specs.Prelude.{ℤ, pos, negsuc, not, if◌then◌else◌}
 use Rattle.std.specs.Ordering.{int_eq}
 use Rattle.sn_frame.specs.Matrix.{Vector, Matrix, cross_product}

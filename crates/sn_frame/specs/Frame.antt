@@ -1,4 +1,4 @@
--- Frames: what a placement means (axis2_placement_3d of ISO 10303-42, narrowed to directions along the axes).
+-- MEANING: frames: what a placement means (axis2_placement_3d of ISO 10303-42, narrowed to directions along the axes).
 use Rattle.std.specs.Prelude.{Bool, ◌&&◌, ◌||◌, not, nat_le, ◌==◌, ℤ, pos, ◌+ℤ◌, unsigned_abs, List, [], ◌∷◌, slice_index_or}
 use Rattle.std.specs.List.{count_by}
 use Rattle.std.specs.Int.{int_signum}

@@ -1,4 +1,4 @@
--- Three by three matrices of whole numbers, and the signed rotations among them (this project's own).
+-- MEANING: three by three matrices of whole numbers, and the signed rotations among them (this project's own).
 use Rattle.std.specs.Prelude.{◌≡◌, ◌+◌, ℤ, pos, ◌+ℤ◌, ◌-ℤ◌, ◌*ℤ◌, unsigned_abs}
 
 -- three numbers, along X, Y and Z

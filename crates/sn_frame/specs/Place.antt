@@ -1,4 +1,4 @@
--- Places on the way to a point, which may lie outside the range of coordinates.
+-- PRIVATE: places on the way to a point, which may lie outside the range of coordinates.
 use Rattle.std.specs.Prelude.{◌≡◌, ℕ, ◌≤◌, ℤ, ◌+ℤ◌, ◌*ℤ◌, unsigned_abs}
 use Rattle.sn_geom.specs.declared.units.Pt3.{Pt3}
 use Rattle.sn_frame.specs.Matrix.{Vector}

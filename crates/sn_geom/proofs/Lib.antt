@@ -7,6 +7,7 @@ pub mod LineNumbers
 pub mod LineReadings
 pub mod MachineFaults
 pub mod MachineRuns
+pub mod Meanings
 pub mod Nearness
 pub mod NumberLimits
 pub mod NumberText

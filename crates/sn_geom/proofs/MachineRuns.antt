@@ -1,9 +1,8 @@
 -- The acts of lists of lines.
-use Rattle.std.proofs.Common.{◌≡◌, ℕ, Option, Some, None, List, [], ◌∷◌, ◌++◌, suc, length, refl, sym, ◌∙◌, ap, subst}
+use Rattle.std.proofs.Common.{◌≡◌, List, [], ◌∷◌, ◌++◌, suc, length, sym, ◌∙◌, ap, subst}
 use Rattle.sn_geom.specs.declared.machine.Acts.{Acts}
-use Rattle.sn_geom.specs.declared.machine.MachFault.{MachFault}
 use Rattle.sn_geom.specs.Block.{Block}
-use Rattle.sn_geom.specs.Machine.{State, fault_of, acts_of, state_after, Runs}
+use Rattle.sn_geom.specs.Machine.{State, acts_of, state_after, Runs}
 use Rattle.sn_geom.specs.MachineLaws.{LinesHaveOneMeaning, FaultyLinesDoNothing, LinesGoOn}
 
 one_list : (state : State) (blocks : List Block) (some others : List Acts) → Runs state blocks some → Runs state blocks others → some ≡ others

@@ -1,5 +1,4 @@
--- MEANING: what holds of each line that is read (after RS274/NGC version 3, NISTIR 6556, 3.3 and 3.4, in this project's
--- profile).
+-- MEANING: what holds of each line that is read (after RS274/NGC version 3, NISTIR 6556, in this project's profile).
 use Rattle.std.specs.Prelude.{◌≡◌, ℕ, ◌≤◌, ◌==◌, true, false, [], List, None, IfSome, All, count_by}
 use Rattle.sn_geom.specs.declared.limits.TheConstants.{MOST_TOOL}
 use Rattle.sn_geom.specs.declared.machine.Word.{Word}

@@ -1,4 +1,4 @@
--- Numbers as text, their limits and their exact values (this project's own).
+-- MEANING: numbers as text, their limits and their exact values (this project's own).
 -- A number's text has an optional sign and at least one digit; then optionally a point and any digits, which may be none;
 -- then optionally E, an optional sign and at least one digit.
 use Rattle.std.specs.Prelude.{◌≡◌, ℕ, ◌*◌, ◌^◌, ◌<◌, ◌≤◌, ◌==◌, Bool, true, false, List, [], ◌++◌, length, drop, Option, Some, None, IfSome, unwrap_or, ℤ, pos, negsuc, ◌-ℤ◌, ◌*ℤ◌, neg_ℤ, unsigned_abs, if◌then◌else◌, codes}

@@ -1,4 +1,4 @@
--- Lengths and coordinates (this project's own).
+-- MEANING: lengths and coordinates (this project's own).
 use Rattle.std.specs.Prelude.{ℤ, ◌≤◌, unsigned_abs}
 use Rattle.sn_geom.specs.declared.limits.TheConstants.{REACH}
 

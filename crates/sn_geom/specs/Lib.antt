@@ -1,3 +1,4 @@
+pub mod Acts
 pub mod AxisWords
 pub mod Block
 pub mod BlockRule
@@ -9,6 +10,8 @@ pub mod LineTextLaws
 pub mod Machine
 pub mod MachineExamples
 pub mod MachineLaws
+pub mod Meaning
+pub mod MeaningLaws
 pub mod NumberPieces
 pub mod Offset
 pub mod Rounding

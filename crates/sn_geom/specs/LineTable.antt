@@ -1,5 +1,5 @@
 -- MEANING: the letters of words with their units and limits, and the modal groups of G and M words (after RS274/NGC
--- version 3, NISTIR 6556, tables 3 to 6, in this project's profile).
+-- version 3, NISTIR 6556, in this project's profile).
 use Rattle.std.specs.Prelude.{ℕ, Bool, true, false, ◌&&◌, ◌||◌, ◌==◌, nat_le, ℤ, pos, negsuc, unsigned_abs, List, [], ◌∷◌, ◌++◌, Option, Some, None, if◌then◌else◌}
 use Rattle.std.specs.Ordering.{int_eq}
 use Rattle.std.specs.List.{find}

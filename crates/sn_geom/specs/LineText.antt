@@ -1,5 +1,5 @@
 -- MEANING: the text of a line: its words and comments, what it says, and its faults (after RS274/NGC version 3, NISTIR
--- 6556, 3.3, in this project's profile).
+-- 6556, in this project's profile).
 use Rattle.std.specs.Prelude.{◌≡◌, ℕ, ◌+◌, ◌-◌, ◌<◌, ◌≤◌, Bool, true, false, not, ◌&&◌, ◌||◌, ◌==◌, nat_le, ◌⊎◌, unsigned_abs, List, [], ◌∷◌, ◌++◌, length, take, drop, filter, take_while, slice_index, Option, Some, None, is_some, if◌then◌else◌}
 use Rattle.std.specs.List.{list_any, list_all}
 use Rattle.std.specs.Option.{option_or}

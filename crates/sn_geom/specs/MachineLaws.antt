@@ -1,5 +1,5 @@
 -- Laws of the machine that runs a program (this project's own).
-use Rattle.std.specs.Prelude.{◌≡◌, ℕ, Bool, true, false, not, ◌&&◌, ◌||◌, List, [], ◌∷◌, ◌++◌, length, find, Option, Some, None, is_some, is_none, IsTrue}
+use Rattle.std.specs.Prelude.{◌≡◌, Bool, true, false, not, ◌&&◌, ◌||◌, List, [], ◌∷◌, ◌++◌, length, find, Some, None, is_none, IsTrue}
 use Rattle.std.specs.Option.{option_or}
 use Rattle.sn_geom.specs.declared.machine.Word.{Word}
 use Rattle.sn_geom.specs.declared.machine.Acts.{Acts}

@@ -1,4 +1,4 @@
--- A number's text cut into its pieces, each as long as it can be.
+-- PRIVATE: a number's text cut into its pieces, each as long as it can be.
 use Rattle.std.specs.Prelude.{◌≡◌, ℕ, ◌<◌, Bool, List, [], ◌∷◌, ◌++◌, Option, Some, None, IfSome, unwrap_or, length, pos, ◌-ℤ◌}
 use Rattle.std.specs.Char.{digit_value}
 use Rattle.std.specs.Str.Parse.{AllDigits, IsNumeral, digits_value}

@@ -1,4 +1,4 @@
--- Differences of coordinates (this project's own).
+-- PRIVATE: differences of coordinates (this project's own).
 use Rattle.std.specs.Prelude.{◌*◌, ◌≤◌, ℤ, unsigned_abs}
 use Rattle.sn_geom.specs.declared.limits.TheConstants.{REACH}
 

@@ -1,4 +1,4 @@
--- Rounding to the nearest whole number, a half away from zero (this project's own).
+-- MEANING: rounding to the nearest whole number, a half away from zero (this project's own).
 use Rattle.std.specs.Prelude.{◌≡◌, ℕ, ◌<◌, ◌≤◌, ℤ, pos, ◌-ℤ◌, ◌*ℤ◌, unsigned_abs}
 
 -- how far the whole number z is from n / m, taken m times

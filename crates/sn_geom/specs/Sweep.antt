@@ -1,4 +1,4 @@
--- Discs about points, and where a moving tool is near a point, touches a cell and surely cuts it (this project's own).
+-- MEANING: discs about points, and where a moving tool is near a point, touches a cell and surely cuts it (this project's own).
 -- A move is straight. Near, Touch and Cut each say that something holds at some fraction of the move: after n of m equal parts of it.
 use Rattle.std.specs.Prelude.{ℕ, ◌+◌, ◌*◌, ◌≤◌, ◌<◌, ◌≡◌, ◌⊎◌, ℤ, pos, ◌+ℤ◌, ◌-ℤ◌, ◌*ℤ◌, ◌≤ℤ◌, unsigned_abs}
 use Rattle.sn_geom.specs.declared.units.Pt.{Pt}

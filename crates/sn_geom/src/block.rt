@@ -28,8 +28,8 @@ pub enum LineFault {
     OpenComment(u32),
 }
 
-/// A G or M word that is known (NISTIR 6556, table 4): its letter as a capital byte, its value (of G in tenths), the
-/// number of its modal group among those of its letter, and whether it is accepted.
+/// A G or M word that is known (NISTIR 6556, on modal groups): its letter as a capital byte, its value (of G in
+/// tenths), the number of its modal group among those of its letter, and whether it is accepted.
 #[derive(Clone, Copy, Debug, PartialEq, Eq)]
 pub struct ModalWord {
     pub letter: u8,

@@ -2,6 +2,7 @@
 ghost use Rattle.sn_geom.specs.SweepLaws.{DiscByRows, DiscHasItsCentre, NearOnePlace, NearEitherWay, NearOfLonger, NearOfLarger, TouchByHeightAndPlan, TouchAbove, CutIsTouch};
 
 pub mod machine;
+pub mod meaning;
 
 /// Laws of discs.
 pub fn discs()

@@ -27,7 +27,7 @@ impl Tip {
     }
 }
 
-/// How the machine moves: the words `G0` and `G1` of the group of motions (NISTIR 6556, 3.5.1 and 3.5.2).
+/// How the machine moves: the words `G0` and `G1` of the group of motions (NISTIR 6556).
 #[derive(Clone, Copy, Debug, PartialEq, Eq)]
 pub enum MotionMode {
     Rapid,
