@@ -86,3 +86,14 @@ material_after old new pass same cells job passes stands =
         λ material. (cells c).1 ((stands.cells c).1 (record { raw = material.raw; uncut = λ other among. material.uncut other (Contains-append_left passes (pass ∷ []) other among) }), λ h. material.uncut pass (Contains-push passes pass) ((cut c).0 h)),
       );
     }
+
+-- over a node that is not near the move the cells are left
+pub kept_far : TouchByHeightAndPlan → (map : HeightMap) (g : Grid) (pass : Pass) (c : Cell) (p q : Pt) → map.grid ≡ g → IsHorizontalOrVertical pass.from pass.to → p ≡ plan pass.from → q ≡ plan pass.to
+    → (IsInWindow g (node_of c) → ¬ Near pass.body.d p q (place g.pitch (node_of c))) → HasCell map c ↔ IsKept map g.pitch pass c
+kept_far law map g pass c p q same straight e f far = (
+  λ has.
+      let P : Pt → Type 0 = λ x. Near pass.body.d x q (place g.pitch (node_of c)) in
+      let Q : Pt → Type 0 = λ x. Near pass.body.d (plan pass.from) x (place g.pitch (node_of c)) in
+      (has, λ cut. far (in_own_window g map.grid (node_of c) (sym same) has.in_window) (subst P (sym e) (subst Q (sym f) ((cut_iff law g.pitch pass c straight).0 cut).1))),
+  λ both. both.0,
+)

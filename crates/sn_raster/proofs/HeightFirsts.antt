@@ -5,6 +5,7 @@ use Rattle.std.proofs.lemmas.Option.{IfSome_then}
 use Rattle.std.specs.Int.{int_min, int_max}
 use Rattle.std.specs.Option.{IfSome}
 use Rattle.sn_geom.proofs.Ring.{sums}
+use Rattle.sn_geom.specs.declared.units.Pt.{Pt}
 use Rattle.sn_geom.specs.declared.units.Pt3.{Pt3}
 use Rattle.sn_geom.specs.declared.units.Cell.{Cell}
 use Rattle.sn_geom.specs.Sweep.{Near, IsHorizontalOrVertical, plan}
@@ -105,3 +106,11 @@ first_of_all P j r none some =
           ⊎_elim (λ (less : other.j <ℤ c.j). none other (let row = f.holds.0 in omega (arith, sums)) p)
           (λ (rest : (other.j ≡ c.j) × ((other.i <ℤ c.i) ⊎ ((other.i ≡ c.i) × (other.z <ℤ c.z)))). f.first other (rest.0 ∙ f.holds.0, p) before) before;
     })
+
+-- a touched cell is over a node of the window that is near the move
+pub touched_in_reach : TouchByHeightAndPlan → (map : HeightMap) (g : Grid) (d : ℕ) (a b : Pt3) (from : ℤ) (c : Cell) (p q : Pt) → map.grid ≡ g → IsHorizontalOrVertical a b → p ≡ plan a → q ≡ plan b
+    → IsTouchedCell map d a b from c → IsInWindow g (node_of c) × Near d p q (place g.pitch (node_of c))
+touched_in_reach law map g d a b from c p q same straight e f touched =
+    let P : Pt → Type 0 = λ x. Near d x q (place g.pitch (node_of c)) in
+    let Q : Pt → Type 0 = λ x. Near d (plan a) x (place g.pitch (node_of c)) in
+    (in_own_window g map.grid (node_of c) (sym same) touched.left.in_window, subst P (sym e) (subst Q (sym f) (touched_near law map g d a b from c same straight touched)))

@@ -16,7 +16,7 @@ use Rattle.sn_raster.specs.Grid.{Grid, Node, IsGrid, IsGridOf, IsInWindow, IsInR
 use Rattle.sn_raster.specs.Plane.{mark_of}
 use Rattle.sn_raster.specs.Heights.{node_of, IsRawSlab, IsMaterial, HeightMap, IsHeightMap, IsHeight, HasCell, height_of}
 use Rattle.sn_raster.proofs.Axis.{kept}
-use Rattle.sn_raster.proofs.Marks.{one_node, in_own_window}
+use Rattle.sn_raster.proofs.Marks.{mark_below, one_node, in_own_window}
 
 abbrev pub node : ℤ → ℤ → Node
 node i j = record { i = i; j = j }
@@ -182,3 +182,9 @@ raw_material law g job c some of =
         below = omega (arith, sums, material.raw.below, heights.1);
       },
     )
+
+-- each node of the window has a height from the raw bottom to the raw top
+pub node_height : (map : HeightMap) (n : Node) → IsHeightMap map → IsInWindow map.grid n → IsHeight map.grid (height_of map n)
+node_height map n rule window =
+    let below = mark_below map.grid n window in
+    All-get_or (IsHeight map.grid) map.heights (mark_of map.grid n) (pos 0) (rw rule.full below) rule.within

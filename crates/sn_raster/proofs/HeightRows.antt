@@ -96,3 +96,36 @@ still_without f = ((λ (a, n). (f.0 a, n)), (λ (b, n). (f.1 b, n)))
 -- what is before the end is not past the last
 pub before_end : (k end last : ℤ) → end ≡ last +ℤ pos 1 → k <ℤ end → k ≤ℤ last
 before_end k end last is below = omega (arith, sums)
+
+-- ---- a part of the nodes and of the rows: the others are not touched
+pub node_passed_to : (P : Cell → Type 0) (g : Grid) (j : ℤ) (map : HeightMap) (i : ℤ) → map.grid ≡ g → ((c : Cell) → c.j ≡ j → c.i <ℤ i → HasCell map c ↔ P c) → IsRowPassed P g j map map i
+node_passed_to P g j map i same before = record {
+  grid = same;
+  row = before;
+  ahead = λ c row from. ((λ has. has), (λ has. has));
+  others = λ c off. ((λ has. has), (λ has. has));
+}
+
+pub part_of_row_passed : (P : Cell → Type 0) (g : Grid) (j : ℤ) (old new : HeightMap) (i : ℤ) → ((c : Cell) → c.j ≡ j → i ≤ℤ c.i → HasCell old c ↔ P c) → IsRowPassed P g j old new i
+    → (c : Cell) → c.j ≡ j → HasCell new c ↔ P c
+part_of_row_passed P g j old new i after passed c row = by_lt_z c.i i (passed.row c row) (λ beyond. along (passed.ahead c row beyond) (after c row beyond))
+
+pub rows_passed_to : (P : Cell → Type 0) (g : Grid) (map : HeightMap) (j : ℤ) → map.grid ≡ g → ((c : Cell) → c.j <ℤ j → HasCell map c ↔ P c) → AreRowsPassed P g map map j
+rows_passed_to P g map j same before = record { grid = same; rows = before; ahead = λ c from. ((λ has. has), (λ has. has)) }
+
+pub part_of_rows_passed : (P : Cell → Type 0) (g : Grid) (old new : HeightMap) (j : ℤ) → ((c : Cell) → j ≤ℤ c.j → HasCell old c ↔ P c) → AreRowsPassed P g old new j → (c : Cell) → HasCell new c ↔ P c
+part_of_rows_passed P g old new j after passed c = by_lt_z c.j j (passed.rows c) (λ beyond. along (passed.ahead c beyond) (after c beyond))
+
+-- a place before the end is not past the last, nor past the last of the window
+pub within_last : (k end last most : ℤ) → end ≡ last +ℤ pos 1 → last ≤ℤ most → k <ℤ end → k ≤ℤ most
+within_last k end last most is le below = omega (arith, sums)
+
+-- a place from the counter on, where the counter is not before the end, is past the last
+pub past_last : (k counter last : ℤ) → last <ℤ counter → counter ≤ℤ k → ¬ (k ≤ℤ last)
+past_last k counter last past from within = omega (arith, sums)
+
+pub before_first : (k counter first : ℤ) → counter ≡ first → k <ℤ counter → ¬ (first ≤ℤ k)
+before_first k counter first is before from = omega (arith, sums)
+
+pub from_first : (k first least : ℤ) → least ≤ℤ first → first ≤ℤ k → least ≤ℤ k
+from_first k first least h low = omega (arith, sums)

@@ -23,11 +23,11 @@ not_before first k = omega (arith, ints)
 not_past : (first last : ℤ) (k : ℕ) → k < places first last → (first +ℤ pos k) ≤ℤ last
 not_past first last k below = omega (arith, ints, clamps)
 
-mark_of_node : (g : Grid) (k : ℕ) → mark_of g (node_of g k) ≡ k
+pub mark_of_node : (g : Grid) (k : ℕ) → mark_of g (node_of g k) ≡ k
 mark_of_node g k =
     rw (place_after g.j0 (k / places g.i0 g.i1), place_after g.i0 (k % places g.i0 g.i1)) (div-add-mod' k (places g.i0 g.i1))
 
-node_in_window : (g : Grid) (k : ℕ) → k < places g.i0 g.i1 * places g.j0 g.j1 → IsInWindow g (node_of g k)
+pub node_in_window : (g : Grid) (k : ℕ) → k < places g.i0 g.i1 * places g.j0 g.j1 → IsInWindow g (node_of g k)
 node_in_window g k below =
     let some = some_left (places g.i0 g.i1) (places g.j0 g.j1) (omega arith) in
     let turned : k < places g.j0 g.j1 * places g.i0 g.i1 = (rw (mul_comm (places g.j0 g.j1) (places g.i0 g.i1)) below) in
@@ -38,7 +38,7 @@ node_in_window g k below =
       back = not_past g.j0 g.j1 _ (div_below k (places g.i0 g.i1) (places g.j0 g.j1) some turned);
     }
 
-same_test : (x y : Bool) → (IsTrue x → IsTrue y) → (IsTrue y → IsTrue x) → x ≡ y
+pub same_test : (x y : Bool) → (IsTrue x → IsTrue y) → (IsTrue y → IsTrue x) → x ≡ y
 same_test true true to back = refl
 same_test true false to back = absurd (false≢true (to refl))
 same_test false true to back = absurd (false≢true (back refl))

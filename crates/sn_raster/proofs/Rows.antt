@@ -65,7 +65,7 @@ in_window g i j j' end e f left right front back = record {
   back = omega (arith, sums);
 }
 
-small : (z : ℤ) → unsigned_abs z ≤ REACH + 1 → SFits w32 z
+pub small : (z : ℤ) → unsigned_abs z ≤ REACH + 1 → SFits w32 z
 small (pos n) h = record { sfits = omega arith }
 small (negsuc n) h = record { sfits = omega arith }
 
@@ -91,3 +91,10 @@ passed_end counter end i last is test high = by_lt_z counter end (λ below. absu
 pub passed_between : (first last k first' last' k' : ℤ) → first' ≡ first → last' ≡ last → k' ≡ k
     → (first' ≤ℤ k') × (k' ≤ℤ last') → (first ≤ℤ k) × (k ≤ℤ last)
 passed_between first last k first' last' k' a b c h = (omega (arith, sums, h.0), omega (arith, sums, h.1))
+
+pub inside_window : (g : Grid) (i j j' : ℤ) → j' ≡ j → g.i0 ≤ℤ i → i ≤ℤ g.i1 → g.j0 ≤ℤ j → j ≤ℤ g.j1 → IsInWindow g (at i j')
+inside_window g i j j' e left right front back = record { left = left; right = right; front = omega (arith, sums); back = omega (arith, sums) }
+
+-- what is not below the first place as it is kept is not below it
+pub counted_from : (first k : ℤ) → IsLength first → to_z w32 (of_z w32 first) ≤ℤ k → first ≤ℤ k
+counted_from first k length low = rw (← kept_as first first refl length) low

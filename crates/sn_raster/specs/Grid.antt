@@ -4,6 +4,7 @@ use Rattle.std.specs.Int.{int_div_euclid, int_max}
 use Rattle.sn_geom.specs.declared.limits.TheConstants.{MOST_NODES}
 use Rattle.sn_geom.specs.declared.units.Pt.{Pt}
 use Rattle.sn_geom.specs.Length.{IsLength}
+use Rattle.sn_geom.specs.Sweep.{Disc}
 use Rattle.sn_outline.specs.declared.job.StepJob.{StepJob}
 use Rattle.sn_outline.specs.Job.{Job}
 use Rattle.sn_outline.specs.JobRule.{IsPitch}
@@ -15,9 +16,17 @@ pub record Node : Type 0 where
   pub i : ℤ
   pub j : ℤ
 
+-- a set of nodes, given by a test
+abbrev pub Nodes : Type 1
+Nodes = Node → Type 0
+
 -- where a node is
 abbrev pub place : ℕ → Node → Pt
 place pitch n = record { x = n.i *ℤ pos pitch; y = n.j *ℤ pos pitch }
+
+-- the nodes of the disc of a diameter about a point
+abbrev pub InDisc : ℕ → ℕ → Pt → Nodes
+InDisc pitch d p n = Disc d p (place pitch n)
 
 -- the nodes of the raw rectangle, its border counted in
 pub record IsRawNode (job : Job) (n : Node) : Type 0 where

@@ -1,6 +1,6 @@
 -- MEANING: the material that is left after passes at feed, and the heights that stand for it (this project's own).
-use Rattle.std.specs.Prelude.{◌≡◌, ◌↔◌, ◌⊎◌, ◌*◌, ℕ, ℤ, pos, ◌≤ℤ◌, ◌<ℤ◌, ◌*ℤ◌, List, length, slice_index_or}
-use Rattle.std.specs.List.{All, Contains}
+use Rattle.std.specs.Prelude.{◌≡◌, ◌↔◌, ◌⊎◌, ◌*◌, ◌<◌, ℕ, ℤ, pos, ◌+ℤ◌, ◌-ℤ◌, ◌≤ℤ◌, ◌<ℤ◌, ◌*ℤ◌, unsigned_abs, List, length, slice_index_or}
+use Rattle.std.specs.List.{All, Contains, sum_by}
 use Rattle.sn_geom.specs.declared.units.Pt3.{Pt3}
 use Rattle.sn_geom.specs.declared.units.Body.{Body}
 use Rattle.sn_geom.specs.declared.units.Cell.{Cell}
@@ -94,3 +94,29 @@ IsBefore c c' = (c.j <ℤ c'.j) ⊎ ((c.j ≡ c'.j) × ((c.i <ℤ c'.i) ⊎ ((c.
 pub record IsFirst (P : Cell → Type 0) (c : Cell) : Type 0 where
   pub holds : P c
   pub first : (other : Cell) → P other → ¬ IsBefore other c
+
+-- Tops and counts.
+
+-- the greatest of the heights over the nodes that N holds of, and the raw bottom where it holds of none
+pub record IsTop (map : HeightMap) (N : Node → Type 0) (top : ℤ) : Type 0 where
+  pub greatest : (n : Node) → N n → height_of map n ≤ℤ top
+  pub reached : (top ≡ map.grid.bottom) ⊎ ((n : Node) × N n × (height_of map n ≡ top))
+
+-- no cell over a node that N holds of is at the height top or above it, and it is the raw bottom or such a cell ends at it
+pub record IsTopOfCells (map : HeightMap) (N : Node → Type 0) (top : ℤ) : Type 0 where
+  pub none_above : (c : Cell) → N (node_of c) → HasCell map c → c.z <ℤ top
+  pub reached : (top ≡ map.grid.bottom) ⊎ ((c : Cell) × N (node_of c) × HasCell map c × (c.z +ℤ pos 1 ≡ top))
+
+-- the heights above the raw bottom, summed over the nodes of the window
+abbrev pub cells_left : HeightMap → ℕ
+cells_left map = sum_by (λ height. unsigned_abs (height -ℤ map.grid.bottom)) map.heights
+
+-- the cells that P holds of have the numbers from 0 up to n less 1, each number once
+pub record AreNumbered (P : Cell → Type 0) (n : ℕ) (number : Cell → ℕ) : Type 0 where
+  pub below : (c : Cell) → P c → number c < n
+  pub apart : (c other : Cell) → P c → P other → number c ≡ number other → c ≡ other
+  pub each : (k : ℕ) → k < n → (c : Cell) × P c × (number c ≡ k)
+
+-- n is how many cells P holds of
+abbrev pub IsCount : (Cell → Type 0) → ℕ → Type 0
+IsCount P n = (number : Cell → ℕ) × AreNumbered P n number

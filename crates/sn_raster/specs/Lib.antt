@@ -4,3 +4,5 @@ pub mod HeightLaws
 pub mod Heights
 pub mod Plane
 pub mod PlaneLaws
+pub mod Reach
+pub mod RowTurns

@@ -8,11 +8,31 @@ ghost use Rattle.sn_raster.specs.Plane.{Has};
 
 use crate::bits::Bits;
 use crate::grid::Grid;
+use crate::shapes::{fill_polygon, fill_trail};
 use sn_geom::{Pt, Um};
-use sn_outline::{Outline, inside};
+use sn_outline::{Outline, Shape, inside};
 
 /// Puts the nodes of row `j` that are inside `o` into the plane, and takes the others of that row out.
 pub fn fill_row(o: &Outline, g: &Grid, j: i32, row: &mut Bits)
+    requires width { HasNearWidth o.now.shape }
+    requires first { g.now.j0 ≤ℤ j }
+    requires last { j ≤ℤ g.now.j1 }
+    requires grid { row.old.grid ≡ g.now }
+    ensures grid { row.new.grid ≡ g.now }
+    ensures row { (i : ℤ) → g.now.i0 ≤ℤ i → i ≤ℤ g.now.i1
+        → Has row.new (record { i = i; j = j }) ↔ InOutline o.now (place g.now.pitch (record { i = i; j = j })) }
+    ensures others { (n : Node) → ¬ (n.j ≡ j) → Has row.new n ↔ Has row.old n }
+{
+    match &o.shape {
+        Shape::Rect(_, _) => fill_each(o, g, j, row),
+        Shape::Circle(_, _) => fill_each(o, g, j, row),
+        Shape::Polygon(points) => fill_polygon(points.as_slice(), g, j, row),
+        Shape::Trail(points, width) => fill_trail(points.as_slice(), *width, g, j, row),
+    }
+}
+
+/// Does the same node by node.
+fn fill_each(o: &Outline, g: &Grid, j: i32, row: &mut Bits)
     requires width { HasNearWidth o.now.shape }
     requires first { g.now.j0 ≤ℤ j }
     requires last { j ≤ℤ g.now.j1 }

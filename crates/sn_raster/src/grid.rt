@@ -162,7 +162,7 @@ fn margin_of_step(step: &StepJob) -> u32
 }
 
 /// Half of a diameter, rounded up.
-fn half(d: u32) -> u32
+pub(crate) fn half(d: u32) -> u32
     ensures { result ≡ half_up d }
 {
     d.div_ceil(2)

@@ -1,5 +1,5 @@
 //! Laws of the material that is left after passes.
-ghost use Rattle.sn_raster.specs.HeightLaws.{CutStaysCut, OrderDoesNotMatter, UntouchedIsLeft};
+ghost use Rattle.sn_raster.specs.HeightLaws.{CutStaysCut, OrderDoesNotMatter, UntouchedIsLeft, TopIsOne, CellsAreCounted};
 
 use sn_geom::laws::touching;
 
@@ -11,3 +11,9 @@ pub fn materials()
 {
     touching();
 }
+
+/// Laws of tops and counts.
+pub fn counts()
+    ensures top { TopIsOne }
+    ensures cells { CellsAreCounted }
+{}

@@ -4,12 +4,16 @@ ghost use Rattle.std.specs.Int.{int_min, int_max};
 ghost use Rattle.sn_outline.specs.Job.{Job};
 ghost use Rattle.sn_geom.specs.Sweep.{IsHorizontalOrVertical, plan};
 ghost use Rattle.sn_raster.specs.Grid.{Node, IsGridOf, IsInWindow, IsInRaw};
-ghost use Rattle.sn_raster.specs.Heights.{node_of, Pass, IsTouchedCell, IsFirst, IsRawSlab, HasCell, StandsFor, IsCutBy, IsHeight, height_of};
+ghost use Rattle.sn_raster.specs.Plane.{Has};
+ghost use Rattle.sn_raster.specs.Heights.{node_of, Pass, IsTouchedCell, IsFirst, IsRawSlab, HasCell, StandsFor, IsCutBy, IsHeight, height_of, IsTop, IsTopOfCells, IsCount, cells_left};
 
-use crate::bits::{mark, nodes_of};
+use crate::bits::{Bits, mark, nodes_of};
 use crate::fill::place_of;
 use crate::grid::Grid;
+use crate::height_laws::counts;
 use crate::laws::grids;
+use crate::reach::{columns_near, rows_near};
+use crate::tops::{sum_above, top_of_rows};
 use sn_geom::laws::touching;
 use sn_geom::{Body, Cell, Memory, Pt, Pt3, REACH, Seg, Um, near};
 use sn_outline::Job;
@@ -97,6 +101,25 @@ impl Heights {
         ensures none { IsNone result → (c : Cell) → ¬ IsTouchedCell self.now d a.now b.now from c }
     {
         first_in_rows(self, &self.grid(), d, a, b, from)
+    }
+
+    /// The greatest height over the raw nodes of the area, and the raw bottom where it has none.
+    pub fn top_in(&self, area: &Bits) -> i32
+        requires { area.now.grid ≡ self.now.grid }
+        ensures top { IsTop self.now (λ n. IsInRaw self.now.grid n × Has area.now n) result }
+        ensures cells { IsTopOfCells self.now (λ n. IsInRaw self.now.grid n × Has area.now n) result }
+    {
+        let g = self.grid;
+        top_of_rows(self, &g, area)
+    }
+
+    /// How many cells are left.
+    pub fn left(&self) -> u64
+        ensures sum { result ≡ cells_left self.now }
+        ensures count { IsCount (HasCell self.now) result }
+    {
+        counts();
+        sum_above(&self.grid, &self.heights)
     }
 
     /// Makes it the height of the node in column `i` and row `j`.
@@ -199,7 +222,9 @@ fn cut_rows(map: &mut Heights, g: &Grid, body: &Body, a: &Pt3, b: &Pt3)
     ensures cells { (c : Cell) → HasCell map.new c ↔ (HasCell map.old c
         × ¬ IsCutBy g.now.pitch (record { body = body.now; from = a.now; to = b.now }) c) }
 {
-    for j in g.j0..g.j1 + 1 {
+    touching();
+    let rows = rows_near(g, body.d, &plan_of(a), &plan_of(b));
+    for j in rows.first..rows.last + 1 {
         cut_row(map, g, body, a, b, j);
     }
 }
@@ -217,7 +242,9 @@ fn cut_row(map: &mut Heights, g: &Grid, body: &Body, a: &Pt3, b: &Pt3, j: i32)
         × ¬ IsCutBy g.now.pitch (record { body = body.now; from = a.now; to = b.now }) c) }
     ensures others { (c : Cell) → ¬ (c.j ≡ j) → HasCell map.new c ↔ HasCell map.old c }
 {
-    for i in g.i0..g.i1 + 1 {
+    touching();
+    let columns = columns_near(g, body.d, &plan_of(a), &plan_of(b));
+    for i in columns.first..columns.last + 1 {
         cut_node(map, g, body, a, b, i, j);
     }
 }
@@ -266,7 +293,9 @@ fn first_in_rows(map: &Heights, g: &Grid, d: u32, a: &Pt3, b: &Pt3, from: i32) -
     ensures some { IfSome result (IsFirst (IsTouchedCell map.now d a.now b.now from)) }
     ensures none { IsNone result → (c : Cell) → ¬ IsTouchedCell map.now d a.now b.now from c }
 {
-    for j in g.j0..g.j1 + 1 {
+    touching();
+    let rows = rows_near(g, d, &plan_of(a), &plan_of(b));
+    for j in rows.first..rows.last + 1 {
         let found = first_in_row(map, g, d, a, b, from, j);
         if found.is_some() {
             return found;
@@ -293,7 +322,9 @@ fn first_in_row(
     ensures some { IfSome result (IsFirst (λ c. (c.j ≡ j) × IsTouchedCell map.now d a.now b.now from c)) }
     ensures none { IsNone result → (c : Cell) → c.j ≡ j → ¬ IsTouchedCell map.now d a.now b.now from c }
 {
-    for i in g.i0..g.i1 + 1 {
+    touching();
+    let columns = columns_near(g, d, &plan_of(a), &plan_of(b));
+    for i in columns.first..columns.last + 1 {
         let found = first_in_node(map, g, d, a, b, from, i, j);
         if found.is_some() {
             return found;

@@ -9,7 +9,13 @@ mod grid;
 pub mod height_laws;
 mod heights;
 pub mod laws;
+mod leads;
 mod places;
+mod reach;
+mod segments;
+mod shapes;
+mod tops;
+mod turns;
 
 pub use bits::Bits;
 pub use fill::fill_row;

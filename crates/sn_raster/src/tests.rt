@@ -1,10 +1,11 @@
 //! The grid of a job, and rows of a plane over it.
-ghost use Rattle.std.specs.Prelude.{◌↔◌, ◌≤ℤ◌, IsTrue};
+ghost use Rattle.std.specs.Prelude.{◌≡◌, ◌↔◌, ◌≤ℤ◌, IfOk, IsTrue};
+ghost use Rattle.sn_geom.specs.Sweep.{IsHorizontalOrVertical};
 ghost use Rattle.sn_outline.specs.Outline.{HasNearWidth};
 ghost use Rattle.sn_raster.specs.Grid.{IsInWindow};
 
 use super::*;
-use sn_geom::{Pt, Pt3, Um};
+use sn_geom::{Body, Cell, Pt, Pt3, REACH, Um};
 use sn_outline::{Job, Numbers, Outline, Shape, Shapes, Steps};
 use std::alloc::Global;
 use std::test::Fail;
@@ -76,7 +77,9 @@ fn has(plane: &Bits, i: i32, j: i32) -> Result<bool, Fail> {
     Err("no such node".into())
 }
 
-fn put(plane: &mut Bits, i: i32, j: i32) -> Result<(), Fail> {
+fn put(plane: &mut Bits, i: i32, j: i32) -> Result<(), Fail>
+    ensures { plane.new.grid ≡ plane.old.grid }
+{
     let g = plane.grid();
     if is_node(&g, i, j) {
         plane.set(i, j, true);
@@ -133,6 +136,120 @@ fn rows_of_a_plane(rt: HostRuntime) -> Result<(), Fail> {
     for (i, j, expected) in cases {
         assert_eq!(rt; has(&plane, i, j)?, expected, "{i} {j}");
         assert_eq!(rt; has(&both, i, j)?, expected, "{i} {j}");
+    }
+    Ok(())
+}
+
+type Place = (i32, i32, i32);
+
+fn place(p: Place) -> Result<Pt3, Fail> {
+    Ok(Pt3 {
+        x: um(p.0)?,
+        y: um(p.1)?,
+        z: um(p.2)?,
+    })
+}
+
+/// A level move where the heights are one, and an upright one at the first place where they are not.
+fn ends(a: Place, b: Place) -> Result<(Pt3, Pt3), Fail>
+    ensures { IfOk result (λ move. IsHorizontalOrVertical move.0 move.1) }
+{
+    let from = place(a)?;
+    let to = place(b)?;
+    if a.2 == b.2 {
+        return Ok((from, Pt3 { z: from.z, ..to }));
+    }
+    Ok((from, Pt3 { z: to.z, ..from }))
+}
+
+fn raw(alloc: Global, j: &Job) -> Result<Heights, Fail> {
+    match Grid::new(j) {
+        Ok(g) => Ok(Heights::raw(alloc, &g, j)?),
+        Err(Big) => Err("too big".into()),
+    }
+}
+
+/// The first cell at the height 100 or more that the pass touches; then cuts with it.
+fn pass(map: &mut Heights, body: Body, a: Place, b: Place) -> Result<Option<Cell>, Fail> {
+    if REACH < body.d || REACH < body.e {
+        return Err("no such tool".into());
+    }
+    let (from, to) = ends(a, b)?;
+    let first = map.first_touched(body.d, &from, &to, 100);
+    map.cut(&body, &from, &to);
+    Ok(first)
+}
+
+fn height(map: &Heights, i: i32, j: i32) -> Result<i32, Fail> {
+    let g = map.grid();
+    if is_node(&g, i, j) {
+        return Ok(map.at(i, j));
+    }
+    Err("no such node".into())
+}
+
+/// The greatest height over the nodes in columns 0 and 3 of row 1.
+fn top(alloc: Global, map: &Heights) -> Result<i32, Fail> {
+    let mut area = Bits::new(alloc, &map.grid())?;
+    put(&mut area, 0, 1)?;
+    put(&mut area, 3, 1)?;
+    Ok(map.top_in(&area))
+}
+
+#[test]
+fn heights_after_passes(rt: HostRuntime) -> Result<(), Fail> {
+    let job = job(rt.alloc(), 3_500, 2_000, 1_000)?;
+    let mut map = raw(rt.alloc(), &job)?;
+    assert_eq!(rt; (map.left(), top(rt.alloc(), &map)?), (6_000, 500));
+    // the diameter and the length of the point, the pass, and then what it touches first and what is left: the count of
+    // cells, the top in row 1, and the heights in columns 1 and 3 of that row
+    let cases = [
+        (
+            (2_000, 0),
+            (0, 0, 300),
+            (2_000, 0, 300),
+            Some((0, 0, 300)),
+            (4_600, 500, 300, 500),
+        ),
+        (
+            (2_000, 0),
+            (0, 0, 300),
+            (2_000, 0, 300),
+            None,
+            (4_600, 500, 300, 500),
+        ),
+        (
+            (10, 50),
+            (3_000, 1_004, 600),
+            (0, 0, 20),
+            Some((3, 1, 100)),
+            (4_170, 300, 300, 70),
+        ),
+        (
+            (10, 0),
+            (1_000, 1_000, -40),
+            (1_000, 0, -40),
+            Some((1, 0, 100)),
+            (3_570, 300, 0, 70),
+        ),
+        (
+            (10, 0),
+            (1_000, -9_000, 200),
+            (1_000, -6, 200),
+            None,
+            (3_570, 300, 0, 70),
+        ),
+    ];
+    for (tool, a, b, first, left) in cases {
+        let body = Body {
+            d: tool.0,
+            e: tool.1,
+        };
+        let touched = pass(&mut map, body, a, b)?;
+        assert_eq!(rt; touched.map(|c| (c.i, c.j, c.z)), first, "{a:?} {b:?}");
+        let heights = (height(&map, 1, 1)?, height(&map, 3, 1)?);
+        let now = (map.left(), top(rt.alloc(), &map)?, heights.0, heights.1);
+        assert_eq!(rt; now, left, "{a:?} {b:?}");
     }
     Ok(())
 }

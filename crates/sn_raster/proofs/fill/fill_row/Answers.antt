@@ -1,54 +1,52 @@
-use Rattle.std.proofs.Common.{◌≡◌, ◌↔◌, ℤ, pos, ◌+ℤ◌, ◌<ℤ◌, w32, to_z, of_z, ap, ◌∙◌, refl, sym, subst, arith}
-use Rattle.std.proofs.lemmas.Int.{ints, to_z-of_z}
-use Rattle.sn_outline.specs.Outline.{InOutline}
+use Rattle.std.proofs.Common.{◌↔◌, ℤ, List, w32, ◌∙◌, sym, subst}
+use Rattle.std.proofs.lemmas.Int.{to_z-of_z}
+use Rattle.sn_outline.specs.declared.outline.Shape.{Shape}
+use Rattle.sn_geom.specs.declared.units.Pt.{Pt}
+use Rattle.sn_outline.specs.Outline.{InOutline, InShape, NearTrail}
+use Rattle.sn_outline.specs.Polygon.{InPolygon}
 use Rattle.sn_raster.specs.Grid.{place}
 use Rattle.sn_raster.specs.Plane.{Has}
-use Rattle.sn_raster.proofs.Axis.{kept}
-use Rattle.sn_raster.proofs.Rows.{IsFilled, at, none_filled, in_window, filled_one, end_is, next_is, one_later, lt_from, passed_end}
-use Rattle.sn_raster.proofs.Marks.{in_own_window}
-use Rattle.sn_geom.specs.Length.{IsLength}
+use Rattle.sn_raster.specs.RowTurns.{at}
 use Rattle.sn_raster.proofs.fill.fill_row.Goals as goal
 
-pub loop-i-init : goal.loop-i-init
-loop-i-init c =
-    let first : to_z w32 (of_z w32 c.g.inside.i0) ≡ c.args.g.now.i0 = kept _ c.g.invariant.ends.columns.0 ∙ ap (λ g. g.i0) c.g.view_is in
-    record { low = omega (arith, ints); filled = none_filled _ _ _ _ _ c.requires.grid first }
+pub returns-in-Rect-clause-row : goal.returns-in-Rect-clause-row
+returns-in-Rect-clause-row c = λ i low high.
+    let P : ℤ → Type 0 = λ j. Has c.fill_each.new.row (at i j) ↔ InOutline c.args.o.now (place c.args.g.now.pitch (at i j)) in
+    subst P (to_z-of_z w32 c.args.j c.ranges.j) (c.fill_each.ensures.row i low high)
 
-pub place_of-requires : goal.place_of-requires
-place_of-requires c =
-    let end = end_is c.g.inside.i1 c.args.g.now.i1 (ap (λ g. g.i1) c.g.view_is) (subst IsLength (ap (λ g. g.i1) c.g.view_is) c.g.invariant.ends.columns.1) in
-    in_window c.args.g.now (to_z w32 c.loop-i.i-bits) c.args.j _ _ (to_z-of_z w32 c.args.j c.ranges.j) end c.loop-i.invariant.low (lt_from _ _ c.loop-i-test.true) c.requires.first c.requires.last
+pub returns-in-Rect-clause-others : goal.returns-in-Rect-clause-others
+returns-in-Rect-clause-others c = λ n off. c.fill_each.ensures.others n (λ on. off (on ∙ to_z-of_z w32 c.args.j c.ranges.j))
 
-pub set-requires : goal.set-requires
-set-requires c =
-    let end = end_is c.g.inside.i1 c.args.g.now.i1 (ap (λ g. g.i1) c.g.view_is) (subst IsLength (ap (λ g. g.i1) c.g.view_is) c.g.invariant.ends.columns.1) in
-    in_own_window _ c.args.g.now _ c.loop-i.invariant.filled.grid
-    (in_window c.args.g.now (to_z w32 c.loop-i.i-bits) c.args.j _ _ (to_z-of_z w32 c.args.j c.ranges.j) end c.loop-i.invariant.low (lt_from _ _ c.loop-i-test.true) c.requires.first c.requires.last)
+pub returns-in-Circle-clause-row : goal.returns-in-Circle-clause-row
+returns-in-Circle-clause-row c = λ i low high.
+    let P : ℤ → Type 0 = λ j. Has c.fill_each-in-Circle.new.row (at i j) ↔ InOutline c.args.o.now (place c.args.g.now.pitch (at i j)) in
+    subst P (to_z-of_z w32 c.args.j c.ranges.j) (c.fill_each-in-Circle.ensures.row i low high)
 
-pub loop-i-preserved : goal.loop-i-preserved
-loop-i-preserved c =
-    let g = c.args.g.now in
-    let i = to_z w32 c.loop-i.i-bits in
-    let j = to_z w32 (of_z w32 c.args.j) in
-    let first_length : IsLength g.i0 = subst IsLength (ap (λ g. g.i0) c.g.view_is) c.g.invariant.ends.columns.0 in
-    let last_length : IsLength g.i1 = subst IsLength (ap (λ g. g.i1) c.g.view_is) c.g.invariant.ends.columns.1 in
-    let end = end_is c.g.inside.i1 g.i1 (ap (λ g. g.i1) c.g.view_is) last_length in
-    let P : ℤ → Type 0 = λ z. i <ℤ z in
-    let below : i <ℤ (g.i1 +ℤ pos 1) = subst P end (lt_from _ _ c.loop-i-test.true) in
-    let next = next_is i g.i0 g.i1 first_length last_length c.loop-i.invariant.low below in
-    let Q : ℤ → Type 0 = λ z. IsFilled c.args.o.now g j c.args.row.now c.set.new.self z in
-    record {
-      low = one_later g.i0 i _ next c.loop-i.invariant.low;
-      filled = subst Q (sym next) (filled_one c.args.o.now g j c.args.row.now c.loop-i.row c.set.new.self i (at i j) c.place_of.result c.inside-on.result refl c.place_of.ensures c.inside-on.ensures c.set.ensures.grid c.set.ensures.node c.set.ensures.others c.loop-i.invariant.filled);
-    }
+pub returns-in-Circle-clause-others : goal.returns-in-Circle-clause-others
+returns-in-Circle-clause-others c = λ n off. c.fill_each-in-Circle.ensures.others n (λ on. off (on ∙ to_z-of_z w32 c.args.j c.ranges.j))
 
-pub returns-clause-row : goal.returns-clause-row
-returns-clause-row c =
-    let g = c.args.g.now in
-    let end = end_is c.g.inside.i1 g.i1 (ap (λ g. g.i1) c.g.view_is) (subst IsLength (ap (λ g. g.i1) c.g.view_is) c.g.invariant.ends.columns.1) in
-    λ i low high.
-    let P : ℤ → Type 0 = λ j. Has c.loop-i.row (at i j) ↔ InOutline c.args.o.now (place g.pitch (at i j)) in
-    subst P (to_z-of_z w32 c.args.j c.ranges.j) (c.loop-i.invariant.filled.row i low (passed_end _ _ i g.i1 end c.loop-i-test.false high))
+pub returns-in-Polygon-clause-row : goal.returns-in-Polygon-clause-row
+returns-in-Polygon-clause-row c = λ i low high.
+    let new = c.fill_polygon.new.row in
+    let pitch = c.args.g.now.pitch in
+    let p = place pitch (at i c.args.j) in
+    let P : ℤ → Type 0 = λ j. Has new (at i j) ↔ InPolygon c.as_slice.result.now (place pitch (at i j)) in
+    let L : List Pt → Type 0 = λ ps. Has new (at i c.args.j) ↔ InPolygon ps p in
+    let S : Shape → Type 0 = λ s. Has new (at i c.args.j) ↔ InShape s p in
+    subst S (sym c.in-Polygon.is) (subst L c.as_slice.ensures (subst P (to_z-of_z w32 c.args.j c.ranges.j) (c.fill_polygon.ensures.row i low high)))
 
-pub returns-clause-others : goal.returns-clause-others
-returns-clause-others c = λ n off. c.loop-i.invariant.filled.others n (λ on. off (on ∙ to_z-of_z w32 c.args.j c.ranges.j))
+pub returns-in-Polygon-clause-others : goal.returns-in-Polygon-clause-others
+returns-in-Polygon-clause-others c = λ n off. c.fill_polygon.ensures.others n (λ on. off (on ∙ to_z-of_z w32 c.args.j c.ranges.j))
+
+pub returns-in-Trail-clause-row : goal.returns-in-Trail-clause-row
+returns-in-Trail-clause-row c = λ i low high.
+    let new = c.fill_trail.new.row in
+    let pitch = c.args.g.now.pitch in
+    let p = place pitch (at i c.args.j) in
+    let P : ℤ → Type 0 = λ j. Has new (at i j) ↔ NearTrail c.as_slice-in-Trail.result.now c.in-Trail.width (place pitch (at i j)) in
+    let L : List Pt → Type 0 = λ ps. Has new (at i c.args.j) ↔ NearTrail ps c.in-Trail.width p in
+    let S : Shape → Type 0 = λ s. Has new (at i c.args.j) ↔ InShape s p in
+    subst S (sym c.in-Trail.is) (subst L c.as_slice-in-Trail.ensures (subst P (to_z-of_z w32 c.args.j c.ranges.j) (c.fill_trail.ensures.row i low high)))
+
+pub returns-in-Trail-clause-others : goal.returns-in-Trail-clause-others
+returns-in-Trail-clause-others c = λ n off. c.fill_trail.ensures.others n (λ on. off (on ∙ to_z-of_z w32 c.args.j c.ranges.j))

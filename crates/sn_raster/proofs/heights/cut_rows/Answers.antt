@@ -1,44 +1,48 @@
-use Rattle.std.proofs.Common.{◌≡◌, ℤ, pos, ◌+ℤ◌, ◌<ℤ◌, w32, to_z, of_z, ap, ◌∙◌, sym, subst, arith}
+use Rattle.std.proofs.Common.{ℤ, pos, ◌+ℤ◌, ◌<ℤ◌, w32, to_z, refl, sym, subst, arith}
 use Rattle.std.proofs.lemmas.Int.{ints}
 use Rattle.sn_geom.proofs.Ring.{sums}
-use Rattle.sn_geom.specs.Length.{IsLength}
-use Rattle.sn_raster.specs.Heights.{Pass}
+use Rattle.sn_raster.specs.Heights.{Pass, node_of}
 use Rattle.sn_raster.proofs.Axis.{kept}
-use Rattle.sn_raster.proofs.Rows.{end_is, next_is, one_later, lt_from, passed_end}
-use Rattle.sn_raster.proofs.HeightCuts.{IsKept, kept_in_window}
-use Rattle.sn_raster.proofs.HeightRows.{AreRowsPassed, before_end, along, still_without, row_passed, no_row_passed, all_rows_passed}
+use Rattle.sn_raster.proofs.Rows.{counted_from, end_is, next_is, one_later, lt_from, passed_end}
+use Rattle.sn_raster.proofs.HeightCuts.{IsKept, kept_far}
+use Rattle.sn_raster.proofs.HeightRows.{AreRowsPassed, along, still_without, row_passed, rows_passed_to, part_of_rows_passed, within_last, past_last, before_first, from_first}
 use Rattle.sn_raster.proofs.heights.cut_rows.Goals as goal
 
 pub loop-j-init : goal.loop-j-init
 loop-j-init c =
     let g = c.args.g.now in
     let pass : Pass = record { body = c.args.body.now; from = c.args.a.now; to = c.args.b.now } in
-    let first : to_z w32 (of_z w32 c.g.inside.j0) ≡ g.j0 = kept _ c.g.invariant.ends.rows.0 ∙ ap (λ g. g.j0) c.g.view_is in
+    let rows = c.rows_near-rows.result in
+    let first = kept rows.first rows.first_in in
     record {
       low = omega (arith, ints);
-      passed = no_row_passed (IsKept c.args.map.now g.pitch pass) g c.args.map.now _ c.requires.grid first (kept_in_window c.args.map.now g pass c.requires.grid);
+      passed = rows_passed_to (IsKept c.args.map.now g.pitch pass) g c.args.map.now _ c.requires.grid
+          (λ cell before.
+          kept_far c.touching.ensures.height_and_plan c.args.map.now g pass cell c.plan_of.result c.plan_of-2.result c.requires.grid c.requires.not_slanted c.plan_of.ensures c.plan_of-2.ensures
+          (λ window near. before_first cell.j _ rows.first first before (c.rows_near-rows.ensures.all (node_of cell) window near).0));
     }
+
+pub cut_row-requires-clause-first : goal.cut_row-requires-clause-first
+cut_row-requires-clause-first c = from_first _ c.rows_near-rows.result.first c.args.g.now.j0 c.rows_near-rows.ensures.first (counted_from c.rows_near-rows.result.first _ c.rows_near-rows.result.first_in c.loop-j.invariant.low)
 
 pub cut_row-requires-clause-last : goal.cut_row-requires-clause-last
 cut_row-requires-clause-last c =
-    let g = c.args.g.now in
-    let end = end_is c.g.inside.j1 g.j1 (ap (λ g. g.j1) c.g.view_is) (subst IsLength (ap (λ g. g.j1) c.g.view_is) c.g.invariant.ends.rows.1) in
-    before_end _ _ g.j1 end (lt_from _ _ c.loop-j-test.true)
+    let rows = c.rows_near-rows.result in
+    within_last _ _ rows.last c.args.g.now.j1 (end_is rows.last rows.last refl rows.last_in) c.rows_near-rows.ensures.last (lt_from _ _ c.loop-j-test.true)
 
 pub loop-j-preserved : goal.loop-j-preserved
 loop-j-preserved c =
     let g = c.args.g.now in
     let pass : Pass = record { body = c.args.body.now; from = c.args.a.now; to = c.args.b.now } in
+    let rows = c.rows_near-rows.result in
     let j = to_z w32 c.loop-j.j-bits in
-    let first_length : IsLength g.j0 = subst IsLength (ap (λ g. g.j0) c.g.view_is) c.g.invariant.ends.rows.0 in
-    let last_length : IsLength g.j1 = subst IsLength (ap (λ g. g.j1) c.g.view_is) c.g.invariant.ends.rows.1 in
-    let end = end_is c.g.inside.j1 g.j1 (ap (λ g. g.j1) c.g.view_is) last_length in
+    let end = end_is rows.last rows.last refl rows.last_in in
     let B : ℤ → Type 0 = λ z. j <ℤ z in
-    let below : j <ℤ (g.j1 +ℤ pos 1) = subst B end (lt_from _ _ c.loop-j-test.true) in
-    let next = next_is j g.j0 g.j1 first_length last_length c.loop-j.invariant.low below in
+    let below : j <ℤ (rows.last +ℤ pos 1) = subst B end (lt_from _ _ c.loop-j-test.true) in
+    let next = next_is j rows.first rows.last rows.first_in rows.last_in (counted_from c.rows_near-rows.result.first _ c.rows_near-rows.result.first_in c.loop-j.invariant.low) below in
     let Q : ℤ → Type 0 = λ z. AreRowsPassed (IsKept c.args.map.now g.pitch pass) g c.args.map.now c.cut_row.new.map z in
     record {
-      low = one_later g.j0 j _ next c.loop-j.invariant.low;
+      low = one_later _ j _ next c.loop-j.invariant.low;
       passed = subst Q (sym next)
           (row_passed (IsKept c.args.map.now g.pitch pass) g c.args.map.now c.loop-j.map c.cut_row.new.map j c.cut_row.ensures.grid
           (λ cell row same. along (c.cut_row.ensures.row cell row) (still_without same)) c.cut_row.ensures.others c.loop-j.invariant.passed);
@@ -48,6 +52,10 @@ pub returns-clause-cells : goal.returns-clause-cells
 returns-clause-cells c =
     let g = c.args.g.now in
     let pass : Pass = record { body = c.args.body.now; from = c.args.a.now; to = c.args.b.now } in
-    let end = end_is c.g.inside.j1 g.j1 (ap (λ g. g.j1) c.g.view_is) (subst IsLength (ap (λ g. g.j1) c.g.view_is) c.g.invariant.ends.rows.1) in
-    let past = passed_end _ _ g.j1 g.j1 end c.loop-j-test.false (omega (arith, sums)) in
-    all_rows_passed (IsKept c.args.map.now g.pitch pass) g c.args.map.now c.loop-j.map _ past (kept_in_window c.args.map.now g pass c.requires.grid) c.loop-j.invariant.passed
+    let rows = c.rows_near-rows.result in
+    let past = passed_end _ _ rows.last rows.last (end_is rows.last rows.last refl rows.last_in) c.loop-j-test.false (omega (arith, sums)) in
+    part_of_rows_passed (IsKept c.args.map.now g.pitch pass) g c.args.map.now c.loop-j.map _
+    (λ cell beyond.
+    kept_far c.touching.ensures.height_and_plan c.args.map.now g pass cell c.plan_of.result c.plan_of-2.result c.requires.grid c.requires.not_slanted c.plan_of.ensures c.plan_of-2.ensures
+    (λ window near. past_last cell.j _ rows.last past beyond (c.rows_near-rows.ensures.all (node_of cell) window near).1))
+    c.loop-j.invariant.passed

@@ -1,29 +1,32 @@
-use Rattle.std.proofs.Common.{◌≡◌, ℤ, pos, ◌+ℤ◌, ◌<ℤ◌, w32, to_z, of_z, ap, ◌∙◌, refl, sym, subst, arith}
+use Rattle.std.proofs.Common.{◌≡◌, ℤ, pos, ◌+ℤ◌, ◌<ℤ◌, w32, to_z, of_z, ◌∙◌, refl, sym, subst, arith}
 use Rattle.std.proofs.lemmas.Int.{ints, by_lt_z, to_z-of_z}
 use Rattle.std.specs.Option.{IfSome}
 use Rattle.sn_geom.proofs.Ring.{sums}
-use Rattle.sn_geom.specs.Length.{IsLength}
 use Rattle.sn_raster.specs.Heights.{IsTouchedCell, IsFirst, node_of}
 use Rattle.sn_raster.proofs.Axis.{kept}
-use Rattle.sn_raster.proofs.Marks.{in_own_window}
-use Rattle.sn_raster.proofs.Rows.{in_window, end_is, next_is, one_later, lt_from, passed_end}
+use Rattle.sn_raster.proofs.Rows.{counted_from, inside_window, end_is, next_is, one_later, lt_from, passed_end}
 use Rattle.sn_raster.proofs.HeightMaps.{node, same_place}
-use Rattle.sn_raster.proofs.HeightFirsts.{first_of_row}
+use Rattle.sn_raster.proofs.HeightRows.{within_last, before_first, from_first}
+use Rattle.sn_raster.proofs.HeightFirsts.{first_of_row, touched_in_reach}
 use Rattle.sn_raster.proofs.heights.first_in_row.Goals as goal
 
 pub loop-i-init : goal.loop-i-init
 loop-i-init c =
-    let first : to_z w32 (of_z w32 c.g.inside.i0) ≡ c.args.g.now.i0 = kept _ c.g.invariant.ends.columns.0 ∙ ap (λ g. g.i0) c.g.view_is in
+    let columns = c.columns_near-columns.result in
+    let first = kept columns.first columns.first_in in
     record {
       low = omega (arith, ints);
-      none = λ cell row before touched. let window = in_own_window _ _ (node_of cell) (sym c.requires.grid) touched.left.in_window in omega (arith, sums, first, before, window.left);
+      none = λ cell row before touched.
+          let reach = touched_in_reach c.touching.ensures.height_and_plan c.args.map.now c.args.g.now c.args.d c.args.a.now c.args.b.now _ cell c.plan_of.result c.plan_of-2.result c.requires.grid c.requires.not_slanted c.plan_of.ensures c.plan_of-2.ensures touched in
+          before_first cell.i _ columns.first first before (c.columns_near-columns.ensures.all (node_of cell) reach.0 reach.1).0;
     }
 
 pub first_in_node-found-requires-clause-window : goal.first_in_node-found-requires-clause-window
 first_in_node-found-requires-clause-window c =
     let g = c.args.g.now in
-    let end = end_is c.g.inside.i1 g.i1 (ap (λ g. g.i1) c.g.view_is) (subst IsLength (ap (λ g. g.i1) c.g.view_is) c.g.invariant.ends.columns.1) in
-    in_window g (to_z w32 c.loop-i.i-bits) c.args.j _ _ (to_z-of_z w32 c.args.j c.ranges.j) end c.loop-i.invariant.low (lt_from _ _ c.loop-i-test.true) c.requires.first c.requires.last
+    let columns = c.columns_near-columns.result in
+    inside_window g (to_z w32 c.loop-i.i-bits) c.args.j _ (to_z-of_z w32 c.args.j c.ranges.j) (from_first _ columns.first g.i0 c.columns_near-columns.ensures.first (counted_from c.columns_near-columns.result.first _ c.columns_near-columns.result.first_in c.loop-i.invariant.low))
+    (within_last _ _ columns.last g.i1 (end_is columns.last columns.last refl columns.last_in) c.columns_near-columns.ensures.last (lt_from _ _ c.loop-i-test.true)) c.requires.first c.requires.last
 
 pub returns-then-is_some-clause-some : goal.returns-then-is_some-clause-some
 returns-then-is_some-clause-some c =
@@ -38,17 +41,15 @@ returns-then-is_some-clause-some c =
 
 pub loop-i-preserved : goal.loop-i-preserved
 loop-i-preserved c =
-    let g = c.args.g.now in
+    let columns = c.columns_near-columns.result in
     let i = to_z w32 c.loop-i.i-bits in
     let j = to_z w32 (of_z w32 c.args.j) in
-    let first_length : IsLength g.i0 = subst IsLength (ap (λ g. g.i0) c.g.view_is) c.g.invariant.ends.columns.0 in
-    let last_length : IsLength g.i1 = subst IsLength (ap (λ g. g.i1) c.g.view_is) c.g.invariant.ends.columns.1 in
-    let end = end_is c.g.inside.i1 g.i1 (ap (λ g. g.i1) c.g.view_is) last_length in
+    let end = end_is columns.last columns.last refl columns.last_in in
     let B : ℤ → Type 0 = λ z. i <ℤ z in
-    let below : i <ℤ (g.i1 +ℤ pos 1) = subst B end (lt_from _ _ c.loop-i-test.true) in
-    let next = next_is i g.i0 g.i1 first_length last_length c.loop-i.invariant.low below in
+    let below : i <ℤ (columns.last +ℤ pos 1) = subst B end (lt_from _ _ c.loop-i-test.true) in
+    let next = next_is i columns.first columns.last columns.first_in columns.last_in (counted_from c.columns_near-columns.result.first _ c.columns_near-columns.result.first_in c.loop-i.invariant.low) below in
     record {
-      low = one_later g.i0 i _ next c.loop-i.invariant.low;
+      low = one_later _ i _ next c.loop-i.invariant.low;
       none = λ cell row before touched.
           by_lt_z cell.i i (λ earlier. c.loop-i.invariant.none cell row earlier touched)
           (λ reached.
@@ -58,10 +59,10 @@ loop-i-preserved c =
 
 pub returns-clause-none : goal.returns-clause-none
 returns-clause-none c =
-    let g = c.args.g.now in
-    let end = end_is c.g.inside.i1 g.i1 (ap (λ g. g.i1) c.g.view_is) (subst IsLength (ap (λ g. g.i1) c.g.view_is) c.g.invariant.ends.columns.1) in
+    let columns = c.columns_near-columns.result in
+    let end = end_is columns.last columns.last refl columns.last_in in
     λ _ cell row touched.
-    let window = in_own_window _ _ (node_of cell) (sym c.requires.grid) touched.left.in_window in
+    let reach = touched_in_reach c.touching.ensures.height_and_plan c.args.map.now c.args.g.now c.args.d c.args.a.now c.args.b.now c.args.from cell c.plan_of.result c.plan_of-2.result c.requires.grid c.requires.not_slanted c.plan_of.ensures c.plan_of-2.ensures touched in
     let F : ℤ → Type 0 = λ f. IsTouchedCell c.args.map.now c.args.d c.args.a.now c.args.b.now f cell in
-    c.loop-i.invariant.none cell (row ∙ sym (to_z-of_z w32 c.args.j c.ranges.j)) (passed_end _ _ cell.i g.i1 end c.loop-i-test.false window.right)
+    c.loop-i.invariant.none cell (row ∙ sym (to_z-of_z w32 c.args.j c.ranges.j)) (passed_end _ _ cell.i columns.last end c.loop-i-test.false (c.columns_near-columns.ensures.all (node_of cell) reach.0 reach.1).1)
     (subst F (sym (to_z-of_z w32 c.args.from c.ranges.from)) touched)

@@ -5,6 +5,6 @@ use Rattle.sn_raster.proofs.heights.first_in_row.Given as goal
 
 abbrev pub invariant-loop-i : goal.invariant-loop-i
 invariant-loop-i l = record {
-  low : l.g.i0 ≤ℤ l.i;
+  low : l.initial.i ≤ℤ l.i;
   none : (c : Cell) → c.j ≡ l.j → c.i <ℤ l.i → ¬ IsTouchedCell l.map l.d l.a l.b l.from c;
 }
