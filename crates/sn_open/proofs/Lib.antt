@@ -1,0 +1,24 @@
+mod CauseLemmas
+mod CellLemmas
+mod GoodActLemmas
+mod GoodLawLemmas
+mod GougeLawLemmas
+mod GougeLemmas
+mod LeastLemmas
+mod MorphologyLemmas
+mod MotionCauseLemmas
+mod OpeningLemmas
+mod OutsideLemmas
+pub mod PassLemmas
+mod ProgramLineLemmas
+mod QuarterLemmas
+mod ReachLawLemmas
+mod ReachLemmas
+mod RegionLawLemmas
+mod RegionLemmas
+mod SearchedLemmas
+mod SpreadLemmas
+mod UpdateLemmas
+mod VerdictLemmas
+mod WidthLemmas
+mod WindowLemmas

@@ -1,0 +1,28 @@
+use Rattle.std.proofs.Common.{◌⊎◌, sym, ◌∙◌, arith}
+use Rattle.sn_raster.specs.Plane.{Has}
+use Rattle.sn_open.specs.Update.{IsNearNode}
+use Rattle.sn_open.specs.Window.{columns}
+use Rattle.sn_open.proofs.UpdateLemmas.{no_row, one_row, all_rows, or_alike, added}
+use Rattle.sn_open.proofs.planes.add_near.Goals as goal
+
+pub loop-row-init : goal.loop-row-init
+loop-row-init c = no_row (λ n. Has c.args.plane.now n ⊎ IsNearNode c.grid-g.result c.args.d c.args.segment.now n) c.grid-g.result c.args.plane.now (sym c.grid-g.ensures)
+
+pub loop-row-preserved : goal.loop-row-preserved
+loop-row-preserved c =
+    let g = c.grid-g.result in
+    let row_in = c.loop-row-test.true in
+    let rows_is = c.rows_of-row-end.ensures.value in
+    one_row (λ n. Has c.args.plane.now n ⊎ IsNearNode c.grid-g.result c.args.d c.args.segment.now n) (λ n. Has c.loop-row.plane n ⊎ IsNearNode c.grid-g.result c.args.d c.args.segment.now n) g c.loop-row.row (columns g) c.args.plane.now c.loop-row.plane c.add_near_row.new.plane (omega arith) (omega arith)
+    (λ k inside. or_alike _ _ _ (c.loop-row.invariant.rest k c.loop-row.row inside (omega arith) (omega arith))) c.loop-row.invariant c.add_near_row.ensures
+
+pub returns-clause-grid : goal.returns-clause-grid
+returns-clause-grid c = c.loop-row.invariant.grid ∙ c.grid-g.ensures
+
+pub returns-clause-nodes : goal.returns-clause-nodes
+returns-clause-nodes c =
+    let g = c.grid-g.result in
+    let end = c.loop-row-test.false in
+    let rows_is = c.rows_of-row-end.ensures.value in
+    let all = all_rows (λ n. Has c.args.plane.now n ⊎ IsNearNode c.grid-g.result c.args.d c.args.segment.now n) g c.loop-row.row c.args.plane.now c.loop-row.plane (omega arith) c.loop-row.invariant in
+    added c.args.plane.now c.loop-row.plane (λ h n. IsNearNode h c.args.d c.args.segment.now n) g c.grid-g.ensures all

@@ -1,0 +1,26 @@
+//! Laws of good programs.
+ghost use Rattle.sn_open.specs.GoodLaws.{AllIsLeftAtFirst, CutsInAnyOrder, CutStaysCut, FeedCutsAboveItsPoint, OnlyFeedsCut, GoodMarksAreTheSteps, GoodEntriesAreSafe, GoodProgramsAreRead, GoodRapidsAreClear, GoodFeedsAreTheirSteps, GoodFeedsStayAllowed, GoodProgramsMoveClear};
+
+/// Laws of the order and the entries of a good program.
+pub fn good_order()
+    ensures marks_are_the_steps { GoodMarksAreTheSteps }
+    ensures entries_are_safe { GoodEntriesAreSafe }
+    ensures are_read { GoodProgramsAreRead }
+{}
+
+/// Laws of the motions of a good program.
+pub fn good_motions()
+    ensures rapids_are_clear { GoodRapidsAreClear }
+    ensures feeds_are_their_steps { GoodFeedsAreTheirSteps }
+    ensures feeds_stay_allowed { GoodFeedsStayAllowed }
+    ensures move_clear { GoodProgramsMoveClear }
+{}
+
+/// Laws of what acts leave of the material.
+pub fn left()
+    ensures all_at_first { AllIsLeftAtFirst }
+    ensures above_the_point { FeedCutsAboveItsPoint }
+    ensures only_feeds { OnlyFeedsCut }
+    ensures stays_cut { CutStaysCut }
+    ensures any_order { CutsInAnyOrder }
+{}
