@@ -1,0 +1,14 @@
+pub mod ColumnLemmas
+pub mod CoverLemmas
+pub mod DiscLemmas
+pub mod LieLemmas
+pub mod PlaceLemmas
+pub mod ReachLemmas
+pub mod RowLemmas
+pub mod RunLemmas
+pub mod StrokeLemmas
+pub mod SurfaceLaws
+pub mod SweptLemmas
+pub mod ThriftColumns
+pub mod ThriftRows
+pub mod WindowLemmas

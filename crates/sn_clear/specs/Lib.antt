@@ -1,0 +1,9 @@
+pub mod Columns
+pub mod Field
+pub mod Places
+pub mod Rows
+pub mod Runs
+pub mod StrokeLaws
+pub mod Strokes
+pub mod Thrift
+pub mod Window

@@ -1,0 +1,29 @@
+//! Laws of the strokes of a step that clears its feature.
+ghost use Rattle.sn_clear.specs.StrokeLaws.{StrokesLieOnUsefulCentres, UsefulCentresHoldTargets, StrokesCoverByTheirCentres, DiscsAreThoseOfTheGrid, RowsAreMaximalRuns, MultiplesAndTheLastAreSelected, LastRowIsSelected, ColumnsCoverOpenTargets, HeldByCentres, StrokesAreThrifty, OneListIsThrifty};
+
+/// Laws of where strokes lie.
+pub fn places()
+    ensures lie { StrokesLieOnUsefulCentres }
+    ensures useful { UsefulCentresHoldTargets }
+{}
+
+/// Laws of what strokes cover.
+pub fn covering()
+    ensures centres { StrokesCoverByTheirCentres }
+    ensures discs { DiscsAreThoseOfTheGrid }
+{}
+
+/// Laws of the strokes of the rows.
+pub fn rows()
+    ensures runs { RowsAreMaximalRuns }
+    ensures selected { MultiplesAndTheLastAreSelected }
+    ensures last { LastRowIsSelected }
+{}
+
+/// Laws of thrift.
+pub fn thrift()
+    ensures held { HeldByCentres }
+    ensures strokes { StrokesAreThrifty }
+    ensures columns { ColumnsCoverOpenTargets }
+    ensures one_list { OneListIsThrifty }
+{}
