@@ -1,0 +1,17 @@
+pub mod ClearLemmas
+pub mod ClearPlanLemmas
+pub mod ClearingLemmas
+pub mod DrillLemmas
+pub mod DrillingLemmas
+pub mod FreeWayLemmas
+pub mod LayerLawLemmas
+pub mod LayerLemmas
+pub mod MaterialLemmas
+pub mod MovesLemmas
+pub mod PlanLawLemmas
+pub mod PlanLemmas
+pub mod PlannerLemmas
+pub mod RunLemmas
+pub mod SafeLemmas
+pub mod StrokeLemmas
+pub mod WayLemmas

@@ -1,0 +1,17 @@
+use Rattle.sn_link.proofs.PlanLawLemmas.{one_highest, one_plan, nothing_to_cut_no_moves, repeated_steps_rest, steps_begin_at_the_tip}
+use Rattle.sn_link.proofs.laws.plans.Goals as goal
+
+pub returns-clause-one_highest : goal.returns-clause-one_highest
+returns-clause-one_highest c = one_highest
+
+pub returns-clause-one_plan : goal.returns-clause-one_plan
+returns-clause-one_plan c = one_plan
+
+pub returns-clause-no_moves : goal.returns-clause-no_moves
+returns-clause-no_moves c = nothing_to_cut_no_moves
+
+pub returns-clause-repeated : goal.returns-clause-repeated
+returns-clause-repeated c = repeated_steps_rest
+
+pub returns-clause-begin_at_the_tip : goal.returns-clause-begin_at_the_tip
+returns-clause-begin_at_the_tip c = steps_begin_at_the_tip

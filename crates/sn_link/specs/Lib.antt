@@ -1,0 +1,10 @@
+pub mod Clearing
+pub mod Examples
+pub mod Layers
+pub mod Moves
+pub mod MovesLaws
+pub mod Plan
+pub mod PlanLaws
+pub mod Planner
+pub mod Safe
+pub mod SafeLaws

@@ -1,0 +1,128 @@
+-- MEANING: laws of plans.
+use Rattle.std.specs.Prelude.{◌≡◌, ◌≢◌, ℕ, ◌+◌, ◌≤◌, ◌≤ℤ◌, ◌<ℤ◌, ◌∷◌, ℤ, pos, List, [], Contains, Some, None}
+use Rattle.sn_geom.specs.declared.units.Pt.{Pt}
+use Rattle.sn_geom.specs.declared.units.Pt3.{Pt3}
+use Rattle.sn_geom.specs.declared.units.Cell.{Cell}
+use Rattle.sn_geom.specs.declared.units.Body.{Body}
+use Rattle.sn_geom.specs.declared.limits.TheConstants.{GAP}
+use Rattle.sn_outline.specs.Job.{Job, tip_floor}
+use Rattle.sn_outline.specs.JobRule.{IsJob}
+use Rattle.sn_outline.specs.declared.job.StepJob.{StepJob}
+use Rattle.sn_raster.specs.Grid.{Node}
+use Rattle.sn_raster.specs.Heights.{node_of, IsRawCell, Pass, IsCutBy, IsMaterial}
+use Rattle.sn_open.specs.Region.{InAllowed, IsOpening, IsRequiredNode}
+use Rattle.sn_open.specs.declared.stroke.Stroke.{Stroke}
+use Rattle.sn_geom.specs.declared.tip.Tip.{Tip}
+use Rattle.sn_geom.specs.declared.tip.Tip.TheVariants.{Unknown, Height, At}
+use Rattle.sn_link.specs.declared.moves.Move.{Move}
+use Rattle.sn_link.specs.declared.moves.Move.TheVariants.{Rapid, Feed}
+use Rattle.sn_link.specs.Layers.{AreLayers, IsFreeWay, IsLink, IsLayer, AreLayerMoves}
+use Rattle.sn_link.specs.Moves.{over, made, plunge, tip_for, tip_after_moves}
+use Rattle.sn_link.specs.Plan.{IsHighest, IsDrillPlan, IsClearPlan, passes_by, ArePlans, IsPlan}
+use Rattle.sn_link.specs.Examples.{boxed, with_other_tool, drill, at}
+
+-- the tip of a step is where the last step left it where the step's tool is in the spindle already, and else at the
+-- security height; moves leave it at the end of the last one
+abbrev pub TipsAreKept : Type 0
+TipsAreKept =
+    (job : Job) (p q r : Pt3)
+    → (tip_for job (Some 1) (At p) drill ≡ At p) × (tip_for job (Some 2) (At p) drill ≡ Height job.sec)
+    × (tip_for job None (At p) drill ≡ Height job.sec)
+    × (tip_after_moves (At p) (Rapid q ∷ Feed r ∷ []) ≡ At r) × (tip_after_moves (At p) [] ≡ At p)
+    × (tip_after_moves (Height job.sec) (Rapid q ∷ []) ≡ At q)
+
+-- moves cut in their passes at feed alone, each from where the move before it ends
+abbrev pub OnlyFeedsOfMovesCut : Type 0
+OnlyFeedsOfMovesCut =
+    (body : Body) (z : ℤ) (p q r : Pt3)
+    → (passes_by body (At p) (Feed q ∷ Rapid r ∷ Feed p ∷ [])
+    ≡ record { body = body; from = p; to = q } ∷ record { body = body; from = r; to = p } ∷ [])
+    × (passes_by body (Height z) (Rapid q ∷ Feed r ∷ []) ≡ record { body = body; from = q; to = r } ∷ [])
+
+-- after some passes there is one height over which no material is left
+abbrev pub OneHighest : Type 0
+OneHighest = (job : Job) (step : StepJob) (passes : List Pass) (a b : ℤ) → IsHighest job step passes a → IsHighest job step passes b → a ≡ b
+
+-- a job has one plan
+abbrev pub OnePlan : Type 0
+OnePlan = (job : Job) (some others : List (StepJob × List Move)) → IsPlan job some → IsPlan job others → some ≡ others
+
+-- a drilling step makes no moves where no material is left over its floor, or where it opens no node
+abbrev pub NothingToCutNoMoves : Type 0
+NothingToCutNoMoves =
+    (job : Job) (step : StepJob) (centre : Pt) (passes : List Pass) (tip : Tip) (moves : List Move)
+    → IsDrillPlan job step centre passes tip moves
+    → (job.low.z ≤ℤ tip_floor step → ((c : Cell) → IsMaterial job passes c → InAllowed job step (node_of c) → c.z <ℤ tip_floor step) → moves ≡ [])
+    × (((n : Node) → ¬ IsOpening job step n) → moves ≡ [])
+
+-- a step that is repeated makes no moves where those of the first time cut all raw cells over its allowed nodes from its
+-- floor up
+abbrev pub RepeatedStepsRest : Type 0
+RepeatedStepsRest =
+    (job : Job) (first : Move) (some others : List Move)
+    → job.low.z ≤ℤ tip_floor drill → ArePlans job [] None Unknown ((drill, first ∷ some) ∷ (drill, others) ∷ [])
+    → ((c : Cell) → IsRawCell job c → InAllowed job drill (node_of c) → tip_floor drill ≤ℤ c.z
+    → (pass : Pass) × Contains (passes_by drill.body (Height job.sec) (first ∷ some)) pass × IsCutBy job.pitch pass c)
+    → others ≡ []
+
+-- the moves are those of a plunge of the step, made from the tip
+abbrev pub PlungesFrom : Job → StepJob → Tip → List Move → Type 0
+PlungesFrom job step tip moves = (above : ℤ) × (moves ≡ made tip (plunge job step (at (pos 10000) (pos 10000)) above))
+
+-- a step begins where the last step with moves left the tip, where that had its tool, and otherwise at the security height
+abbrev pub StepsBeginAtTheTip : Type 0
+StepsBeginAtTheTip =
+    (job : Job) (first : Move) (some others : List Move) → others ≢ []
+    → (ArePlans job [] None Unknown ((drill, first ∷ some) ∷ (with_other_tool, []) ∷ (drill, others) ∷ [])
+    → PlungesFrom job drill (tip_after_moves (Height job.sec) (first ∷ some)) others)
+    × (ArePlans job [] None Unknown ((drill, first ∷ some) ∷ (with_other_tool, others) ∷ []) → PlungesFrom job with_other_tool (Height job.sec) others)
+
+-- Clearing.
+
+-- layers of 2 mm down to the height 4 mm: the last is at the floor, and not deeper than the others
+abbrev pub LayersAreAnAxialDepthApart : Type 0
+LayersAreAnAxialDepthApart =
+    AreLayers 2000 (pos 4000) (pos 9500) (pos 7500 ∷ pos 5500 ∷ pos 4000 ∷ [])
+    × AreLayers 2000 (pos 4000) (pos 8000) (pos 6000 ∷ pos 4000 ∷ [])
+    × AreLayers 2000 (pos 4000) (pos 4001) (pos 4000 ∷ [])
+
+-- from each height over a floor there are layers down to it
+abbrev pub LayersComeToTheFloor : Type 0
+LayersComeToTheFloor = (axial : ℕ) (floor above : ℤ) → 1 ≤ axial → floor <ℤ above → (tips : List ℤ) × AreLayers axial floor above tips
+
+abbrev pub OneListOfLayers : Type 0
+OneListOfLayers =
+    (axial : ℕ) (floor above : ℤ) (some others : List ℤ) → AreLayers axial floor above some → AreLayers axial floor above others → some ≡ others
+
+-- to the next stroke at feed where the way is free, and else up by the point length, and over it at the security height
+abbrev pub LinksAreFedOrLifted : Type 0
+LinksAreFedOrLifted =
+    (a b : Pt) (moves : List Move) → IsLink (boxed []) drill (pos 9500) (pos 7500) a b moves
+    → (IsFreeWay (boxed []) drill a b → moves ≡ Feed (over b (pos 7500)) ∷ [])
+    × ((¬ IsFreeWay (boxed []) drill a b)
+    → moves ≡ Feed (over a (pos 7800)) ∷ Rapid (over a (pos 20000)) ∷ Rapid (over b (pos 20000)) ∷ Rapid (over b (pos (9500 + GAP))) ∷ Feed (over b (pos 7500)) ∷ [])
+
+-- a layer of two strokes with a free way from the first to the second
+abbrev pub LayersGoAlongTheirStrokes : Type 0
+LayersGoAlongTheirStrokes =
+    (s t : Stroke) (moves : List Move) → IsFreeWay (boxed []) drill s.to t.from
+    → IsLayer (boxed []) drill (pos 9500) (pos 7500) (s ∷ t ∷ []) moves
+    → moves ≡ Rapid (over s.from (pos 20000)) ∷ Rapid (over s.from (pos (9500 + GAP))) ∷ Feed (over s.from (pos 7500)) ∷ Feed (over s.to (pos 7500))
+    ∷ Feed (over t.from (pos 7500)) ∷ Feed (over t.to (pos 7500)) ∷ Feed (over t.to (pos 7800)) ∷ Rapid (over t.to (pos 20000)) ∷ []
+
+-- in rapid a later layer is approached down to where the one before it cut with the whole diameter
+abbrev pub LaterLayersBeginWhereTheLastCut : Type 0
+LaterLayersBeginWhereTheLastCut =
+    (s : Stroke) (moves : List Move) → AreLayerMoves (boxed []) drill (s ∷ []) (pos 9500) (pos 7500 ∷ pos 4000 ∷ []) moves
+    → moves ≡ Rapid (over s.from (pos 20000)) ∷ Rapid (over s.from (pos (9500 + GAP))) ∷ Feed (over s.from (pos 7500)) ∷ Feed (over s.to (pos 7500))
+    ∷ Feed (over s.to (pos 7800)) ∷ Rapid (over s.to (pos 20000))
+    ∷ Rapid (over s.from (pos 20000)) ∷ Rapid (over s.from (pos (7800 + GAP))) ∷ Feed (over s.from (pos 4000)) ∷ Feed (over s.to (pos 4000))
+    ∷ Feed (over s.to (pos 4300)) ∷ Rapid (over s.to (pos 20000)) ∷ []
+
+-- a clearing step makes no moves where no material is left over its floor, or where it opens no node that is required for
+-- its feature
+abbrev pub NothingToClearNoMoves : Type 0
+NothingToClearNoMoves =
+    (job : Job) (step : StepJob) (passes : List Pass) (tip : Tip) (moves : List Move) → IsJob job → IsClearPlan job step passes tip moves
+    → (job.low.z ≤ℤ tip_floor step → ((c : Cell) → IsMaterial job passes c → InAllowed job step (node_of c) → c.z <ℤ tip_floor step) → moves ≡ [])
+    × (((n : Node) → IsRequiredNode job step.feature n → ¬ IsOpening job step n) → moves ≡ [])
