@@ -1,8 +1,10 @@
 mod FaultLemmas
+mod GivenAt
 mod GivenForms
 mod GivenOne
 mod GroupLemmas
 mod KindLemmas
+mod LimitLemmas
 mod MeasureLemmas
 mod OneShowingLemmas
 mod ParamLemmas

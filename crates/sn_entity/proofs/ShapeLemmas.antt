@@ -61,11 +61,11 @@ shows_shape = (λ i f h. given_shapes h.entity (reads_of f.row) f.values h.value
 no : {A : Type 0} → false ≡ true → A
 no e = absurd cc
 
-num_tells : (v : Value) → is_num v ≡ true → (z : ℤ) × (v ≡ value.Num z)
+pub num_tells : (v : Value) → is_num v ≡ true → (z : ℤ) × (v ≡ value.Num z)
 num_tells (value.Num z) h = (z, refl)
 num_tells _ h = no h
 
-triple_tells : (v : Value) → is_triple v ≡ true → (x y z : ℤ) × (v ≡ value.Triple x y z)
+pub triple_tells : (v : Value) → is_triple v ≡ true → (x y z : ℤ) × (v ≡ value.Triple x y z)
 triple_tells (value.Triple x y z) h = (x, y, z, refl)
 triple_tells _ h = no h
 
@@ -73,7 +73,7 @@ text_tells : (v : Value) → is_text v ≡ true → (text : List ℕ) × (v ≡ 
 text_tells (value.Text text) h = (text, refl)
 text_tells _ h = no h
 
-one_tells : (v : Value) → is_one v ≡ true → (n : ℕ) × (v ≡ value.One n)
+pub one_tells : (v : Value) → is_one v ≡ true → (n : ℕ) × (v ≡ value.One n)
 one_tells (value.One n) h = (n, refl)
 one_tells _ h = no h
 

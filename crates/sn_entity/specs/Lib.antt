@@ -1,4 +1,6 @@
 pub mod Form
+pub mod Given
+pub mod Limits
 pub mod Measure
 pub mod OneRow
 pub mod Parts

@@ -1,4 +1,5 @@
 //! Laws of the table.
+ghost use Rattle.sn_entity.specs.Given.{GivenWhereWanted};
 ghost use Rattle.sn_entity.specs.OneRow.{OneRow};
 ghost use Rattle.sn_entity.specs.Shape.{ShapesTell, ShowsShape};
 ghost use Rattle.sn_entity.specs.TableLaws.{InGroupOrNot};
@@ -17,4 +18,9 @@ pub fn shows_shape()
 /// A row is in a group or not.
 pub fn in_group_or_not()
     ensures { InGroupOrNot }
+{}
+
+/// What a row wants and may not lack is given at its place.
+pub fn given_where_wanted()
+    ensures { GivenWhereWanted }
 {}

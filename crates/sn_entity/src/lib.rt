@@ -5,6 +5,7 @@
 mod fault;
 mod keywords;
 mod laws;
+mod limits;
 mod measure;
 mod param;
 mod reads;
@@ -17,8 +18,9 @@ mod tests;
 mod value;
 
 pub use fault::EntFault;
-pub use laws::{in_group_or_not, one_row, shows_shape};
+pub use laws::{given_where_wanted, in_group_or_not, one_row, shows_shape};
+pub use limits::shows_within_limits;
 pub use row::{Group, Kind, Read, Row, RowId};
 pub use shown::{fields, one_showing, row_of};
 pub use table::{Reads, reads_of};
-pub use value::{Bytes, Fields, Refs, Value, Values};
+pub use value::{Bytes, Fields, Refs, Triple, Value, Values};

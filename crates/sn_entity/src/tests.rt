@@ -1,6 +1,6 @@
 //! Each row of the table once, and the faults of parameters.
 
-use crate::{EntFault, Fields, Value, fields, row_of};
+use crate::{EntFault, Fields, Triple, Value, fields, row_of};
 use sn_p21::{Instance, read_file};
 use std::alloc::{AllocError, Global};
 use std::process::Abort;
@@ -253,5 +253,24 @@ fn gives_the_values_of_parameters(rt: HostRuntime) -> Result<(), Fail> {
         return Err(Fail::from("no points"));
     };
     assert_eq!(rt; refs.as_slice(), [1, 2, 3, 4, 5, 6, 7, 8, 9].as_slice());
+    // The same by places, and nothing of another form or past the end.
+    assert_eq!(rt; (technology.num(1), technology.num(2)), (Some(720), None));
+    let wanted = Triple {
+        x: -1,
+        y: 2_000,
+        z: 0,
+    };
+    assert_eq!(rt; (point.triple(0), point.num(0)), (Some(wanted), None));
+    assert_eq!(rt; (line.many(0).len(), line.many(1).len()), (9, 0));
+    assert_eq!(rt; (line.one(0), line.triple(0)), (None, None));
+    let Ok(variable) = shown(rt.alloc(), "#5=NC_VARIABLE('deep',$);")? else {
+        return Err(Fail::from("no variable"));
+    };
+    assert_eq!(rt; variable.text(0), b"deep".as_slice());
+    assert_eq!(rt; (variable.text(1).len(), variable.num(1)), (0, None));
+    let Ok(plane) = shown(rt.alloc(), "#5=PLANE('',#7);")? else {
+        return Err(Fail::from("no plane"));
+    };
+    assert_eq!(rt; plane.one(0), Some(7));
     Ok(())
 }

@@ -69,7 +69,7 @@ found_as shape rows is kept n (Some k) h e = let found = found_is_entry is kept 
 pub kept_by_row : ShowsShape → OneRow → KeptByRow
 kept_by_row shape rows m n model =
     kept_stable (row_of_number n m) (entry_of n m)
-    (λ no. ∥∥₁_elim model (λ x y. absurd x) (λ h. no (found_as shape rows h.0 m.kept n (kept_of n m.kept) h.2.kept refl)))
+    (λ no. ∥∥₁_elim model (λ x y. absurd x) (λ h. no (found_as shape rows h.0 m.kept n (kept_of n m.kept) h.3.kept refl)))
 
 -- The project.
 
@@ -91,4 +91,4 @@ project_found rows m is differ model =
 pub project_has_row : OneRow → ProjectHasRow
 project_has_row rows m model =
     project_stable (row_of_number m.project m)
-    (λ no. ∥∥₁_elim model (λ x y. absurd x) (λ h. no (project_found rows m h.0 h.1 h.2)))
+    (λ no. ∥∥₁_elim model (λ x y. absurd x) (λ h. no (project_found rows m h.0 h.1 h.3)))

@@ -2,6 +2,7 @@ mod FoundLemmas
 mod KeptByRowLemmas
 mod KeptLemmas
 mod ModelOrFault
+mod NumbersAndLimits
 mod OneModelLemmas
 mod Places
 mod ProjectLemmas

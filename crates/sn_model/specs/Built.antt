@@ -1,5 +1,5 @@
 -- MEANING (this project's own): the model of instances, and why they have none.
-use Rattle.std.specs.Prelude.{◌≡◌, ℕ, List, [], ◌∷◌, ◌++◌, Option, Some, None}
+use Rattle.std.specs.Prelude.{◌≡◌, ℕ, ◌<◌, List, [], ◌∷◌, ◌++◌, Option, Some, None}
 use Rattle.std.specs.List.{AllByRecursion}
 use Rattle.sn_p21.specs.declared.file.Entity.{Entity}
 use Rattle.sn_p21.specs.declared.file.Instance.{Instance}
@@ -51,9 +51,13 @@ pub record IsModelOf (is : List Instance) (m : ModelContent) : Type 0 where
   pub kept : AreKept is m.kept
   pub project : HaveOneProject is m.project
 
--- the model of some instances, whose numbers differ
+-- no instance has the number 0
+abbrev pub HaveNumbers : List Instance → Type 0
+HaveNumbers is = AllByRecursion (λ i. 0 < i.number) is
+
+-- the model of some instances, whose numbers differ and are not 0
 abbrev pub IsModel : ModelContent → Type 0
-IsModel m = ∥ ((is : List Instance) × NumbersDiffer is × IsModelOf is m) ∥₁
+IsModel m = ∥ ((is : List Instance) × NumbersDiffer is × HaveNumbers is × IsModelOf is m) ∥₁
 
 -- the project that stands second in file order has this number
 pub record HaveSecondProject (is : List Instance) (n : ℕ) : Type 0 where

@@ -1,8 +1,8 @@
 //! Laws of models. Each function's contract states a law.
 ghost use Rattle.sn_model.specs.Built.{OneModel};
-ghost use Rattle.sn_model.specs.BuiltLaws.{KeptByRow, ProjectHasRow};
+ghost use Rattle.sn_model.specs.BuiltLaws.{KeptByRow, ProjectHasRow, KeptWithinLimits, RowsHaveNumbers};
 
-use sn_entity::{one_row, one_showing, shows_shape};
+use sn_entity::{one_row, one_showing, shows_shape, shows_within_limits};
 
 /// Instances have one model or one fault, and not both.
 pub fn one_model()
@@ -26,3 +26,15 @@ pub fn project_has_row()
 {
     one_row();
 }
+
+/// What an instance of a model shows keeps the limits of its row.
+pub fn kept_within_limits()
+    ensures { KeptWithinLimits }
+{
+    shows_within_limits();
+}
+
+/// No instance that has a row has the number 0.
+pub fn rows_have_numbers()
+    ensures { RowsHaveNumbers }
+{}

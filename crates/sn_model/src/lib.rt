@@ -6,7 +6,7 @@ mod laws;
 mod model;
 
 pub use fault::ModelFault;
-pub use laws::{kept_by_row, one_model, project_has_row};
+pub use laws::{kept_by_row, kept_within_limits, one_model, project_has_row, rows_have_numbers};
 pub use model::{Entry, Kept, Model, build};
 
 #[cfg(test)]

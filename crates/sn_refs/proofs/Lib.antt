@@ -10,4 +10,6 @@ mod Paths
 mod RankLemmas
 mod ReachLemmas
 mod SoundOrFault
+mod TargetLemmas
 mod WalkLemmas
+mod WithinLemmas

@@ -58,7 +58,7 @@ typed_as : (r : Option RowId) (f : Fields) → IsKeptAs r (Some (Typed f)) → I
 typed_as (Some id) f h = (ap Some (sym h.0), subst (λ (x : RowId). HaveShape (reads_of x) f.values) (sym h.0) h.1)
 typed_as None f h = absurd h
 
-entry_from_fields : (e : Option Entry) (f : Fields) → Some f ≡ fields_from e → e ≡ Some (Typed f)
+pub entry_from_fields : (e : Option Entry) (f : Fields) → Some f ≡ fields_from e → e ≡ Some (Typed f)
 entry_from_fields (Some (Typed g)) f h = ap (λ (x : Fields). Some (Typed x)) (let same : g ≡ f = cc in same)
 entry_from_fields (Some (Bad why)) f h = absurd (let none : Some f ≡ None = h in cc)
 entry_from_fields (Some Stranger) f h = absurd (let none : Some f ≡ None = h in cc)

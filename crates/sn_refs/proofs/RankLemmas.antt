@@ -12,6 +12,7 @@ use Rattle.sn_refs.specs.declared.reference.Reference.{Reference}
 use Rattle.sn_refs.specs.Path.{IsClosed}
 use Rattle.sn_refs.specs.Reference.{references, Names, IsChain, IsReached}
 use Rattle.sn_refs.specs.Sound.{IsSound, IsOrdered, SoundIsRanked}
+use Rattle.sn_refs.specs.Target.{ChainsAreShort}
 use Rattle.sn_refs.proofs.Chains.{IsChain-append, leads_by_name, reached_on, closed_chain}
 use Rattle.sn_refs.proofs.EndLemmas.{reached_is_kept}
 use Rattle.sn_refs.proofs.ModelLemmas.{has_rows, HasRows}
@@ -143,3 +144,16 @@ pub sound_is_ranked : KeptByRow → ProjectHasRow → SoundIsRanked
 sound_is_ranked kept project m model sound =
     let order : IsOrderWith m [] (m.project ∷ []) = order_of m (has_rows kept project m model) sound (length m.kept) [] m.project (omega arith) no_trail (λ a h. absurd (Contains-nil a h)) ([], refl) (λ a h. absurd (Contains-nil a h)) [] tt in
     (order.0, order.1, λ n h. closed_chain m order.0 (ordered_closed m order.0 order.1) m.project h.0 n (order.3 m.project (Contains-one m.project)) h.1)
+
+-- ---- chains are short
+
+module _ (m : ModelContent) (rows : HasRows m) (sound : IsSound m) where
+  short_behind : (ns : List ℕ) (a b : ℕ) (trail : List ℕ) → IsDistinct nat_eq trail → ((x : ℕ) → Contains trail x → IsReached m x) → IsReached m a → IsTrail m trail a → IsChain m a ns b → length ns + length trail < length m.kept
+  short_behind [] a b trail distinct reached here leads chain =
+      let short : length (a ∷ trail) ≤ length m.kept = trail_is_short m rows sound (a ∷ trail) (distinct_trail m rows sound trail a distinct here leads) (reached_trail m rows sound trail a reached here) in omega arith
+  short_behind (n ∷ ns) a b trail distinct reached here leads chain =
+      let short : length ns + length (a ∷ trail) < length m.kept = short_behind ns n b (a ∷ trail) (distinct_trail m rows sound trail a distinct here leads) (reached_trail m rows sound trail a reached here) (reached_on m a n here (leads_by_name m a n chain.0)) (trail_on m trail a n chain.0 leads) chain.1 in omega arith
+
+pub chains_are_short : KeptByRow → ProjectHasRow → ChainsAreShort
+chains_are_short kept project m model sound a ns b here chain =
+    let short : length ns + length {A = ℕ} [] < length m.kept = short_behind m (has_rows kept project m model) sound ns a b [] no_trail (λ x h. absurd (Contains-nil x h)) here (λ x h. absurd (Contains-nil x h)) chain in omega arith

@@ -1,3 +1,5 @@
 pub mod Path
 pub mod Reference
 pub mod Sound
+pub mod Target
+pub mod Within

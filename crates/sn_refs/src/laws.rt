@@ -1,5 +1,6 @@
 //! Laws of the definitions of references. Each function's contract states a law, and the function does nothing.
 ghost use Rattle.sn_refs.specs.Sound.{OneVerdict, SameReach, SoundIsRanked};
+ghost use Rattle.sn_refs.specs.Target.{ChainsAreShort, NamedAreTargets, NamesAtPlaces, ReachedAreShown};
 
 use sn_entity::in_group_or_not;
 use sn_model::{kept_by_row, project_has_row};
@@ -24,4 +25,29 @@ pub fn sound_is_ranked()
 {
     kept_by_row();
     project_has_row();
+}
+
+/// What a reached instance of a sound model names is reached, and of the group that its row wants there.
+pub fn named_are_targets()
+    ensures { NamedAreTargets }
+{}
+
+/// A chain of references of a sound model is shorter than its list of instances.
+pub fn chains_are_short()
+    ensures { ChainsAreShort }
+{
+    kept_by_row();
+    project_has_row();
+}
+
+/// What a reached instance of a sound model names at a place of its row it names by a reference.
+pub fn names_at_places()
+    ensures { NamesAtPlaces }
+{}
+
+/// Each reached instance of a sound model shows its fields, of its row and in the shape of that row.
+pub fn reached_are_shown()
+    ensures { ReachedAreShown }
+{
+    kept_by_row();
 }

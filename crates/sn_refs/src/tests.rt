@@ -1,10 +1,18 @@
 //! The verdicts on small parts.
 
+ghost use Rattle.std.specs.Prelude.{IfSome};
+ghost use Rattle.std.specs.List.{Contains};
+ghost use Rattle.sn_entity.specs.declared.row.Group.TheVariants.{One as OneRow};
+ghost use Rattle.sn_entity.specs.declared.row.RowId.TheVariants.{Axis2Placement3d};
+ghost use Rattle.sn_refs.specs.Reference.{IsReached};
+ghost use Rattle.sn_refs.specs.Target.{IsTarget};
+
 use crate::{Checked, RefFault, check};
-use sn_entity::{EntFault, RowId, Value};
-use sn_model::build;
+use sn_entity::{EntFault, RowId, Triple, Value};
+use sn_model::{build, project_has_row};
 use sn_p21::read_file;
 use std::alloc::Global;
+use std::process::Abort;
 use std::test::Fail;
 
 /// The instances of a part with one hole, without its security plane and the dimension of its tool.
@@ -110,6 +118,54 @@ fn sound_parts_are_checked(rt: HostRuntime) -> Result<(), Fail> {
     Ok(())
 }
 
+/// What stands at places, from the project down to the diameter of the hole and the point of the security plane.
+fn check_places(rt: &impl Abort, checked: &Checked) {
+    checked.rule();
+    project_has_row();
+    let workplan = checked.one(checked.project(), 0);
+    assert_eq!(rt; workplan, 2);
+    assert_eq!(rt; checked.many(checked.project(), 1), [3].as_slice());
+    let Some(setup) = checked.maybe_one(workplan, 1) else {
+        return assert!(rt; false, "no setup");
+    };
+    assert_eq!(rt; (setup, checked.maybe_one(setup, 0)), (5, Some(7)));
+    let Some(step) = first(checked.many(workplan, 0)) else {
+        return assert!(rt; false, "no step");
+    };
+    if checked.fields(step).row == RowId::MachiningWorkingstep {
+        check_hole(rt, checked, checked.one(step, 1));
+    }
+}
+
+/// The point of a placement.
+fn location(checked: &Checked, placement: u32) -> Triple
+    requires { IsTarget checked.now (OneRow Axis2Placement3d) placement }
+{
+    checked.triple(checked.one(placement, 0), 0)
+}
+
+/// The point and the diameter of the hole.
+fn check_hole(rt: &impl Abort, checked: &Checked, hole: u32)
+    requires { IsReached checked.now hole }
+{
+    assert_eq!(rt; hole, 8);
+    if checked.fields(hole).row == RowId::RoundHole {
+        let point = location(checked, checked.one(hole, 0));
+        assert_eq!(rt; (point.x, point.y, point.z), (10_000, 10_000, 10_000));
+        let diameter = checked.one(hole, 2);
+        if checked.fields(diameter).row == RowId::TolerancedLengthMeasure {
+            assert_eq!(rt; checked.num(diameter, 0), 8_000);
+        }
+    }
+}
+
+/// The first of the numbers.
+fn first(numbers: &[u32]) -> Option<u32>
+    ensures { IfSome result (λ n. Contains numbers.now n) }
+{
+    numbers.first().copied()
+}
+
 #[test]
 fn part_with_one_hole(rt: HostRuntime) -> Result<(), Fail> {
     let rows = [
@@ -141,6 +197,7 @@ fn part_with_one_hole(rt: HostRuntime) -> Result<(), Fail> {
                 assert!(rt; checked.names_block(6));
                 assert!(rt; !checked.names_block(7));
                 assert!(rt; !checked.names_block(26));
+                check_places(&rt, &checked);
             }
             Err(told) => assert_eq!(rt; Some(told), fault),
         }

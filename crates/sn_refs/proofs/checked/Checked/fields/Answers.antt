@@ -4,7 +4,7 @@ use Rattle.sn_entity.specs.declared.value.Fields.{Fields}
 use Rattle.sn_model.specs.declared.model.Entry.TheVariants.{Typed}
 use Rattle.sn_model.specs.ModelContent.{ModelContent, entry_of}
 use Rattle.sn_refs.specs.Reference.{IsReached, fields_from}
-use Rattle.sn_refs.proofs.ModelLemmas.{shown_is_of_its_row}
+use Rattle.sn_refs.proofs.ModelLemmas.{entry_from_fields, shown_is_of_its_row}
 use Rattle.sn_refs.proofs.checked.Checked.fields.Goals as goal
 
 pub unreachable-requires : goal.unreachable-requires
@@ -20,3 +20,8 @@ returns-clause-row c = (shown_is_of_its_row c.self.inside.model c.args.self.now 
 
 pub returns-clause-shape : goal.returns-clause-shape
 returns-clause-shape c = (shown_is_of_its_row c.self.inside.model c.args.self.now c.args.n c.in-Some.fields.now c.kept_by_row.ensures c.self.invariant.model c.self.view_is c.in-Some.ensures).1
+
+pub returns-clause-limits : goal.returns-clause-limits
+returns-clause-limits c =
+    let m = c.self.inside.model in
+    c.kept_within_limits.ensures m c.args.n c.in-Some.fields.now c.self.invariant.model (entry_from_fields (entry_of c.args.n m) c.in-Some.fields.now (c.in-Some.ensures))
