@@ -1,5 +1,12 @@
-pub mod Command
-pub mod CommandLaws
-pub mod Options
-pub mod Reading
-pub mod WordForms
+pub mod Tools
+pub mod ToolsLaws
+pub mod Setup
+pub mod SetupLaws
+pub mod Steps
+pub mod Faults
+pub mod JobOf
+pub mod JobOfLaws
+pub mod Gathered
+pub mod PartsRule
+pub mod RuleLaws
+pub mod Sides

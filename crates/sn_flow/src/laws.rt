@@ -1,29 +1,63 @@
-//! Laws of command lines, for proofs above. The functions do nothing.
+//! Laws of the definitions of jobs. Each function's contract states laws, and the function does nothing.
+ghost use Rattle.sn_flow.specs.JobOfLaws.{WalkFirst, WorkpieceSecond, RawBoxThird, SecurityFourth, StepsLast, ElseTheJob, StepsAreExecuted, GivenBoxIsUsed, NoOtherFault};
+ghost use Rattle.sn_flow.specs.PartsRule.{PartsKeepRule};
+ghost use Rattle.sn_flow.specs.RuleLaws.{StepsKeepRule};
+ghost use Rattle.sn_flow.specs.SetupLaws.{FirstNamingTells, UnnamedStandsAtOrigin, BoundedByBlock, RawpieceFirst, OwnBlockElse, BlockInBox, GreatestOrRawTop};
+ghost use Rattle.sn_flow.specs.Sides.{TurnedBoxHasSides};
+ghost use Rattle.sn_flow.specs.ToolsLaws.{FirstUsesGrow, NumbersAreFilled, NumbersDiffer};
 
-ghost use Rattle.sn_flow.specs.CommandLaws.{AcceptedOrDeparts, DepartsOnce, OptionsChangePlaces, SaysOneThing, SaysWithinLimits};
+use sn_walk::laws::outcome_tells;
 
-use sn_geom::{one_reading, one_rounding};
+/// The numbers of tools.
+pub fn tools()
+    ensures grow { FirstUsesGrow }
+    ensures filled { NumbersAreFilled }
+    ensures differ { NumbersDiffer }
+{}
 
-/// One list of words says one thing.
-pub fn one_meaning()
-    ensures { SaysOneThing }
+/// Where the workpiece stands, which BLOCK bounds its raw material, what the box of a turned BLOCK holds, and which security
+/// plane tells the security height.
+pub fn setups()
+    ensures naming { FirstNamingTells }
+    ensures unnamed { UnnamedStandsAtOrigin }
+    ensures bounded { BoundedByBlock }
+    ensures rawpiece { RawpieceFirst }
+    ensures own { OwnBlockElse }
+    ensures turned { BlockInBox }
+    ensures greatest { GreatestOrRawTop }
+{}
+
+/// The order of refusals: the walk, the workpiece's placement, the raw box, the security height, the steps; else there is the job.
+pub fn refusals()
+    ensures walk { WalkFirst }
+    ensures workpiece { WorkpieceSecond }
+    ensures raw_box { RawBoxThird }
+    ensures security { SecurityFourth }
+    ensures steps { StepsLast }
+    ensures job { ElseTheJob }
+{}
+
+/// The steps of a job are the executed workingsteps in order, and a raw box that is given is that of the job. Want of memory
+/// and the faults of grids are no refusals of the definition.
+pub fn jobs()
+    ensures executed { StepsAreExecuted }
+    ensures given { GivenBoxIsUsed }
+    ensures no_other { NoOtherFault }
 {
-    one_reading();
-    one_rounding();
+    outcome_tells();
 }
 
-/// A list of words departs at one place, and not where it is accepted.
-pub fn departs_once()
-    ensures once { DepartsOnce }
-    ensures either { AcceptedOrDeparts }
+/// The steps that are made of parts keep the rule of jobs.
+pub(crate) fn steps_keep_rule()
+    ensures { StepsKeepRule }
 {}
 
-/// Options may stand in any order, among each other and among assignments.
-pub fn any_order()
-    ensures { OptionsChangePlaces }
+/// The box of a turned block has three sides.
+pub(crate) fn turned_boxes()
+    ensures { TurnedBoxHasSides }
 {}
 
-/// What words say is within its limits.
-pub fn within_limits()
-    ensures { SaysWithinLimits }
+/// The parts of executed steps have one body for each tool and one place for each feature.
+pub(crate) fn parts_keep_rule()
+    ensures { PartsKeepRule }
 {}

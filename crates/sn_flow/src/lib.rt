@@ -1,21 +1,19 @@
-//! The words of a command line: what they ask for, or the place of the first that cannot stand there.
+//! From a sound model to a job: the workpiece and its raw box, the security height, and the executed steps with their tools.
 #![tactic(auto)]
 
-mod command_line;
 mod fault;
+mod jobs;
 pub mod laws;
-mod limits;
-mod number;
-mod options;
-mod seen;
-mod setting;
-mod words;
+mod parts;
+mod raw;
+mod security;
+mod setup;
+mod steps;
 
-pub use command_line::values;
-pub use fault::WordFault;
-pub use limits::{DEFAULT_PITCH, MOST_SEED, MOST_VALUE, PER_ONE, PER_UM};
-pub use options::{Assign, Assigns, Command, Opts, RawBox};
-pub use words::Words;
+pub use fault::JobFault;
+pub use jobs::job;
+pub use sn_feature::read_placement;
+pub use sn_words::{Assign, Command, Opts, RawBox, Words, values};
 
 #[cfg(test)]
 mod tests;

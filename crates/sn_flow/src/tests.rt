@@ -1,252 +1,280 @@
-//! Lists of words, what they ask for, and where others depart.
+//! Jobs of the sample part with one hole, and of parts that differ from it in a few instances.
 
-use crate::{Opts, RawBox, Words, values};
+use crate::{JobFault, Opts, Words, job, values};
+use sn_frame::FrameFault;
+use sn_geom::Pt3;
+use sn_model::build;
+use sn_outline::{Job, Shape, StepJob};
+use sn_p21::read_file;
+use sn_refs::{Checked, check};
 use std::alloc::Global;
 use std::test::Fail;
 
-/// What words between bars ask for, or the refusal.
-fn said(alloc: Global, line: &str) -> Result<String, Fail> {
-    let mut words = Words::new(alloc);
-    if !line.is_empty() {
-        for word in line.split('|') {
-            words.push(word.as_bytes())?;
+/// The instances of the sample part.
+const INSTANCES: [(u32, &str); 25] = [
+    (1, "PROJECT('one',#2,(#3),$,$,$)"),
+    (2, "WORKPLAN('main',(#4),$,#5,$)"),
+    (3, "WORKPIECE('block',$,$,$,$,#6,())"),
+    (4, "MACHINING_WORKINGSTEP('hole',#7,#8,#9,$)"),
+    (5, "SETUP('setup',$,#7,(#10))"),
+    (6, "BLOCK('raw',#11,20.,20.,10.)"),
+    (7, "PLANE('security',#12)"),
+    (8, "ROUND_HOLE('hole',#3,(#9),#13,#14,#15,$,#16)"),
+    (9, "DRILLING($,$,'plunge',$,$,#17,#18,$,$,$,$,$,$,$)"),
+    (10, "WORKPIECE_SETUP(#3,#11,$,$,())"),
+    (11, "AXIS2_PLACEMENT_3D('origin',#19,$,$)"),
+    (12, "AXIS2_PLACEMENT_3D('security',#20,$,$)"),
+    (13, "AXIS2_PLACEMENT_3D('hole',#21,$,$)"),
+    (14, "PLANE('depth',#22)"),
+    (15, "TOLERANCED_LENGTH_MEASURE(8.,$)"),
+    (16, "FLAT_HOLE_BOTTOM()"),
+    (17, "CUTTING_TOOL('mill 8',#23,(),80.,$,$)"),
+    (18, "MILLING_TECHNOLOGY(0.005,.TCP.,$,-12.,$,.F.,.F.,.F.,$)"),
+    (19, "CARTESIAN_POINT('',(0.,0.,0.))"),
+    (20, "CARTESIAN_POINT('',(0.,0.,20.))"),
+    (21, "CARTESIAN_POINT('',(10.,10.,10.))"),
+    (22, "AXIS2_PLACEMENT_3D('depth',#24,$,$)"),
+    (23, "ENDMILL(#25,4,.RIGHT.,.F.,$,$)"),
+    (24, "CARTESIAN_POINT('',(0.,0.,-6.))"),
+    (25, "MILLING_TOOL_DIMENSION(8.,$,$,20.,0.,$,$)"),
+];
+
+/// What stands for an instance, or for it and further ones.
+type Change = (u32, &'static str);
+
+/// What stands for an instance.
+fn changed(number: u32, instance: &'static str, changes: &[Change]) -> &'static str {
+    for (other, text) in changes {
+        if *other == number {
+            return text;
         }
     }
-    match values(alloc, &words) {
-        Ok(asked) => shown(alloc, &asked),
-        Err(fault) => Ok(format!(in alloc; "{fault}")?),
+    instance
+}
+
+/// The sample part with these changes.
+fn part(alloc: Global, changes: &[Change]) -> Result<Checked, Fail> {
+    let mut text = format!(in alloc;
+        "ISO-10303-21;HEADER;FILE_DESCRIPTION((''),'1');FILE_NAME();FILE_SCHEMA(());ENDSEC;DATA;"
+    )?;
+    for (number, instance) in INSTANCES {
+        let line = format!(in alloc; "#{}={};", number, changed(number, instance, changes))?;
+        text.push_str(line.as_str())?;
+    }
+    text.push_str("ENDSEC;END-ISO-10303-21;")?;
+    let Ok(file) = read_file(alloc, text.as_bytes()) else {
+        return Err(Fail::from("not read"));
+    };
+    let Ok(model) = build(alloc, &file) else {
+        return Err(Fail::from("no model"));
+    };
+    match check(alloc, model) {
+        Ok(checked) => Ok(checked),
+        Err(_) => Err(Fail::from("not sound")),
     }
 }
 
-/// The command, its file words in brackets, the seed, the pitch, the box in micrometres and the assignments in thousandths.
-fn shown(alloc: Global, asked: &Opts) -> Result<String, Fail> {
-    let mut text = format!(in alloc; "{:?}", asked.command)?;
-    for k in 0..asked.files.len() {
-        let file = str::from_utf8(asked.files.get(k)).map_err(|_| "no text")?;
-        let file = format!(in alloc; " [{file}]")?;
-        text.push_str(file.as_str())?;
+/// What the words of a command ask for, with a raw box where it is not empty.
+fn options(alloc: Global, raw: &str) -> Result<Opts, Fail> {
+    let mut words = Words::new(alloc);
+    for word in ["compile", "P", "--cell", "1000"] {
+        words.push(word.as_bytes())?;
     }
-    let numbers = format!(in alloc; " {} {}", asked.seed, asked.pitch)?;
-    text.push_str(numbers.as_str())?;
-    if let Some(raw) = &asked.raw {
-        let corners = corners(alloc, raw)?;
-        text.push_str(corners.as_str())?;
+    if !raw.is_empty() {
+        words.push("--raw".as_bytes())?;
+        words.push(raw.as_bytes())?;
     }
-    for set in asked.sets.as_slice() {
-        let name = str::from_utf8(set.name.as_slice()).map_err(|_| "no text")?;
-        let set = format!(in alloc; " {name}={}", set.value)?;
-        text.push_str(set.as_str())?;
+    match values(alloc, &words) {
+        Ok(options) => Ok(options),
+        Err(_) => Err(Fail::from("not the words of a command")),
+    }
+}
+
+/// A step on one line.
+fn step_text(alloc: Global, s: &StepJob) -> Result<String, Fail> {
+    let Shape::Circle(centre, diameter) = &s.outline.shape else {
+        return Err(Fail::from("no hole"));
+    };
+    let place = format!(in alloc;
+        "#{} #{} circle {},{} {} top {} floor {} {:?} corner {}",
+        s.ws,
+        s.feature,
+        centre.x.get(),
+        centre.y.get(),
+        diameter,
+        s.top,
+        s.floor,
+        s.bottom,
+        s.corner
+    )?;
+    let text = format!(in alloc;
+        "; {place} allowances {} {} depths {} {} tool {} {} {} feed {} speed {} {:?}",
+        s.side, s.under, s.axial, s.radial, s.tool, s.body.d, s.body.e, s.feed, s.speed, s.way
+    )?;
+    Ok(text)
+}
+
+fn corner_text(alloc: Global, p: &Pt3) -> Result<String, Fail> {
+    Ok(format!(in alloc; "{},{},{}", p.x.get(), p.y.get(), p.z.get())?)
+}
+
+/// A job on one line.
+fn job_text(alloc: Global, job: &Job) -> Result<String, Fail> {
+    let low = corner_text(alloc, &job.low())?;
+    let high = corner_text(alloc, &job.high())?;
+    let mut text = format!(in alloc;
+        "{} from {low} to {high} security {} tools",
+        job.pitch(),
+        job.sec()
+    )?;
+    for tool in job.tools() {
+        let tool = format!(in alloc; " #{}", tool)?;
+        text.push_str(tool.as_str())?;
+    }
+    for step in job.steps() {
+        let step = step_text(alloc, step)?;
+        text.push_str(step.as_str())?;
     }
     Ok(text)
 }
 
-fn corners(alloc: Global, raw: &RawBox) -> Result<String, Fail> {
-    let (low, high) = (raw.low, raw.high);
-    let (x0, y0, z0) = (low.x.get(), low.y.get(), low.z.get());
-    let (x1, y1, z1) = (high.x.get(), high.y.get(), high.z.get());
-    Ok(format!(in alloc; " {x0},{y0},{z0},{x1},{y1},{z1}")?)
-}
+const NO_STEPS: Change = (2, "WORKPLAN('main',(),$,#5,$)");
 
-const COMMANDS: [(&str, &str); 41] = [
-    ("", "word 1"),
-    ("Compile|p", "word 1"),
-    ("cut|p", "word 1"),
-    ("--help", "word 1"),
-    ("--version", "word 1"),
-    ("--cell|100", "word 1"),
-    ("|p", "word 1"),
-    ("compile", "word 2"),
-    ("compile|", "word 2"),
-    ("compile|-", "word 2"),
-    ("compile|-p", "word 2"),
-    ("compile|--cell", "word 2"),
-    ("compile|--help", "word 2"),
-    ("compile|p", "Compile [p] 0 250"),
-    ("compile|compile", "Compile [compile] 0 250"),
-    ("compile|a=1", "Compile [a=1] 0 250"),
-    ("compile|=", "Compile [=] 0 250"),
-    ("compile|my part.stp", "Compile [my part.stp] 0 250"),
-    ("compile|p|q", "word 3"),
-    ("compile|p|", "word 3"),
-    ("compile|p|--help", "word 3"),
-    ("report|p", "Report [p] 0 250"),
-    ("report|-p", "word 2"),
-    ("verify", "word 2"),
-    ("verify|p", "word 3"),
-    ("verify|-p|q", "word 2"),
-    ("verify|p|-q", "word 3"),
-    ("verify|p|--cell|100", "word 3"),
-    ("verify|p|q", "Verify [p] [q] 0 250"),
-    ("verify|p|p", "Verify [p] [p] 0 250"),
-    ("verify|p|q|r", "word 4"),
-    ("make", "word 2"),
-    ("make|", "word 2"),
-    ("make|x", "word 2"),
-    ("make|-1", "word 2"),
-    ("make|+1", "word 2"),
-    ("make|4294967296", "word 2"),
-    ("make|4294967295", "Make 4294967295 250"),
-    ("make|007", "Make 7 250"),
-    ("make|1|a=1", "word 3"),
-    ("trial|0", "Trial 0 250"),
-];
+const NO_BLOCK: Change = (3, "WORKPIECE('block',$,$,$,$,$,())");
+
+const LOW_SECURITY: Change = (20, "CARTESIAN_POINT('',(0.,0.,9.999))");
+
+const SKEW_WORKPIECE: Change = (
+    10,
+    "WORKPIECE_SETUP(#3,#30,$,$,());#30=AXIS2_PLACEMENT_3D('',#19,#31,$);#31=DIRECTION('',(1.,1.,0.))",
+);
+
+const SKEW_BLOCK: Change = (
+    6,
+    "BLOCK('raw',#32,20.,20.,10.);#32=AXIS2_PLACEMENT_3D('',#19,#33,$);#33=DIRECTION('',(0.,1.,1.))",
+);
 
 #[test]
-fn commands_are_told_apart(rt: HostRuntime) -> Result<(), Fail> {
-    for (line, answer) in COMMANDS {
-        let text = said(rt.alloc(), line)?;
-        assert_eq!(rt; text.as_str(), answer);
+fn jobs(rt: HostRuntime) -> Result<(), Fail> {
+    let rows: [(&[Change], &str, &str); 7] = [
+        (
+            &[],
+            "",
+            "1000 from 0,0,0 to 20000,20000,10000 security 20000 tools #17; #4 #8 circle 10000,10000 8000 top 10000 floor 4000 Flat corner 0 allowances 0 0 depths 4000000 4000 tool 1 8000 0 feed 300 speed 720 Drill",
+        ),
+        // the workpiece stands elsewhere, and its raw box with it
+        (
+            &[(10, "WORKPIECE_SETUP(#3,#13,$,$,())")],
+            "",
+            "1000 from 10000,10000,10000 to 30000,30000,20000 security 20000 tools #17; #4 #8 circle 20000,20000 8000 top 20000 floor 14000 Flat corner 0 allowances 0 0 depths 4000000 4000 tool 1 8000 0 feed 300 speed 720 Drill",
+        ),
+        // a given box in place of the BLOCK, which then has no fault
+        (
+            &[SKEW_BLOCK, NO_STEPS],
+            "-5,0,-1.5,30,20,12",
+            "1000 from -5000,0,-1500 to 30000,20000,12000 security 20000 tools",
+        ),
+        (
+            &[NO_BLOCK, NO_STEPS],
+            "0,0,0,1,2,3",
+            "1000 from 0,0,0 to 1000,2000,3000 security 20000 tools",
+        ),
+        // the BLOCK of the rawpiece, before that of the workpiece
+        (
+            &[
+                NO_STEPS,
+                (
+                    3,
+                    "WORKPIECE('block',$,$,#30,$,#6,());#30=WORKPIECE('',$,$,$,$,#31,());#31=BLOCK('',#11,7.,8.,9.)",
+                ),
+            ],
+            "",
+            "1000 from 0,0,0 to 7000,8000,9000 security 20000 tools",
+        ),
+        // the raw top, where no security plane is named
+        (
+            &[NO_STEPS, (5, "SETUP('setup',$,$,(#10))")],
+            "",
+            "1000 from 0,0,0 to 20000,20000,10000 security 10000 tools",
+        ),
+        // tools are numbered by their first uses, and the highest security plane counts
+        (
+            &[(
+                2,
+                "WORKPLAN('main',(#30,#4),$,#5,$);#30=MACHINING_WORKINGSTEP('',#33,#8,#31,$);#31=DRILLING($,$,'',$,$,#32,#18,$,$,$,$,$,$,$);#32=CUTTING_TOOL('',#23,(),6.,$,$);#33=PLANE('',#34);#34=AXIS2_PLACEMENT_3D('',#35,$,$);#35=CARTESIAN_POINT('',(0.,0.,25.))",
+            )],
+            "",
+            "1000 from 0,0,0 to 20000,20000,10000 security 25000 tools #32 #17; #30 #8 circle 10000,10000 8000 top 10000 floor 4000 Flat corner 0 allowances 0 0 depths 4000000 4000 tool 1 8000 0 feed 300 speed 720 Drill; #4 #8 circle 10000,10000 8000 top 10000 floor 4000 Flat corner 0 allowances 0 0 depths 4000000 4000 tool 2 8000 0 feed 300 speed 720 Drill",
+        ),
+    ];
+    for (changes, raw, wanted) in rows {
+        let checked = part(rt.alloc(), changes)?;
+        let options = options(rt.alloc(), raw)?;
+        match job(rt.alloc(), &checked, &options) {
+            Ok(made) => {
+                let told = job_text(rt.alloc(), &made)?;
+                assert_eq!(rt; told.as_str(), wanted);
+            }
+            Err(_) => return Err(Fail::from("no job")),
+        }
     }
     Ok(())
 }
 
-const OPTIONS: [(&str, &str); 47] = [
-    ("trial|1|--cell|100", "word 3"),
-    ("compile|p|--cell", "word 4"),
-    ("compile|p|--cell|", "word 4"),
-    ("compile|p|--cell|19", "word 4"),
-    ("compile|p|--cell|20", "Compile [p] 0 20"),
-    ("compile|p|--cell|2000", "Compile [p] 0 2000"),
-    ("compile|p|--cell|2001", "word 4"),
-    ("compile|p|--cell|01000", "Compile [p] 0 1000"),
-    ("compile|p|--cell|+100", "word 4"),
-    ("compile|p|--cell|100.", "word 4"),
-    ("compile|p|--cell|99999999999", "word 4"),
-    ("compile|p|--cell|a=1", "word 4"),
-    ("compile|p|--cell=100", "word 3"),
-    ("compile|p|--cells|100", "word 3"),
-    ("compile|p|-cell|100", "word 3"),
-    ("compile|p|--cell|100|q", "word 5"),
-    ("compile|p|--cell|100|--cell", "word 5"),
-    ("compile|p|--cell|100|--cell|100", "word 5"),
-    ("compile|p|--cell|100|--cell|x", "word 5"),
-    ("compile|p|--raw", "word 4"),
-    (
-        "compile|p|--raw|0,0,0,1,1,1",
-        "Compile [p] 0 250 0,0,0,1000,1000,1000",
-    ),
-    (
-        "compile|p|--raw|-1,-2.5,-3,0,+1E0,0.0005",
-        "Compile [p] 0 250 -1000,-2500,-3000,0,1000,1",
-    ),
-    (
-        "compile|p|--raw|-2000,0,0,2000.0004,1,1",
-        "Compile [p] 0 250 -2000000,0,0,2000000,1000,1000",
-    ),
-    ("compile|p|--raw|0,0,0,2000.0005,1,1", "word 4"),
-    ("compile|p|--raw|0,0,0,0,1,1", "word 4"),
-    ("compile|p|--raw|0,0,0,1,0,1", "word 4"),
-    ("compile|p|--raw|0,0,0,1,1,0", "word 4"),
-    ("compile|p|--raw|0,0,0,0.0004,1,1", "word 4"),
-    ("compile|p|--raw|0,2,0,1,1,1", "word 4"),
-    ("compile|p|--raw|0,0,0,1,1", "word 4"),
-    ("compile|p|--raw|0,0,0,1,1,1,1", "word 4"),
-    ("compile|p|--raw|0,0,0,1,1,1,", "word 4"),
-    ("compile|p|--raw|0,0,0,1,1,", "word 4"),
-    ("compile|p|--raw|0,0,0,1,,1", "word 4"),
-    ("compile|p|--raw|0, 0,0,1,1,1", "word 4"),
-    ("compile|p|--raw|0;0;0;1;1;1", "word 4"),
-    ("compile|p|--raw|", "word 4"),
-    ("compile|p|--raw=0,0,0,1,1,1", "word 3"),
-    ("compile|p|--raw|0,0,0,1,1,1|--raw|0,0,0,1,1,1", "word 5"),
-    ("compile|p|--raw|0,0,0,1,1,1|--raw", "word 5"),
-    ("compile|p|--raw|0,0,0,1,1,1|--cell", "word 6"),
-    ("compile|p|--raw|--cell|100", "word 4"),
-    (
-        "compile|p|--raw|0,0,0,1,1,1|--cell|100",
-        "Compile [p] 0 100 0,0,0,1000,1000,1000",
-    ),
-    (
-        "report|p|--cell|100|--raw|0,0,0,1,1,1",
-        "Report [p] 0 100 0,0,0,1000,1000,1000",
-    ),
-    ("verify|p|q|--cell", "word 5"),
-    ("verify|p|q|--raw|1", "word 5"),
-    (
-        "verify|p|q|--cell|100|--raw|0,0,0,1,1,1",
-        "Verify [p] [q] 0 100 0,0,0,1000,1000,1000",
-    ),
-];
-
 #[test]
-fn options_are_read(rt: HostRuntime) -> Result<(), Fail> {
-    for (line, answer) in OPTIONS {
-        let text = said(rt.alloc(), line)?;
-        assert_eq!(rt; text.as_str(), answer);
-    }
-    Ok(())
-}
-
-const ASSIGNMENTS: [(&str, &str); 44] = [
-    ("report|p|a=1.5", "Report [p] 0 250 a=1500"),
-    ("report|p|a=-0", "Report [p] 0 250 a=0"),
-    ("report|p|a=5.", "Report [p] 0 250 a=5000"),
-    ("report|p|a=+1E2", "Report [p] 0 250 a=100000"),
-    ("report|p|a=1E-3", "Report [p] 0 250 a=1"),
-    ("report|p|a=0.0005", "Report [p] 0 250 a=1"),
-    ("report|p|a=-0.0005", "Report [p] 0 250 a=-1"),
-    ("report|p|a=-0.0004", "Report [p] 0 250 a=0"),
-    ("report|p|a=2000000", "Report [p] 0 250 a=2000000000"),
-    ("report|p|a=-2000000.0004", "Report [p] 0 250 a=-2000000000"),
-    ("report|p|a=2000000.0005", "word 3"),
-    (
-        "report|p|a=0.00000000000000000000000000000000000000001",
-        "Report [p] 0 250 a=0",
-    ),
-    ("report|p|a=8.000000000000000000000000000000", "word 3"),
-    (
-        "report|p|a=0000000000000000000000000000000000000000000000000000000000000001",
-        "Report [p] 0 250 a=1000",
-    ),
-    (
-        "report|p|a=00000000000000000000000000000000000000000000000000000000000000001",
-        "word 3",
-    ),
-    ("report|p|a=0E099", "Report [p] 0 250 a=0"),
-    ("report|p|a=0E100", "word 3"),
-    ("report|p|a=.5", "word 3"),
-    ("report|p|a=1e2", "word 3"),
-    ("report|p|a=1 ", "word 3"),
-    ("report|p|a= 1", "word 3"),
-    ("report|p|a=", "word 3"),
-    ("report|p|a=b", "word 3"),
-    ("report|p|a=1=2", "word 3"),
-    ("report|p|a==1", "word 3"),
-    ("report|p|a", "word 3"),
-    ("report|p|=1", "word 3"),
-    ("report|p|1a=1", "word 3"),
-    ("report|p|_a=1", "word 3"),
-    ("report|p|a-b=1", "word 3"),
-    ("report|p|a b=1", "word 3"),
-    ("report|p|ä=1", "word 3"),
-    ("report|p|aä=1", "word 3"),
-    ("report|p|Az_09=1", "Report [p] 0 250 Az_09=1000"),
-    ("report|p|a=1|A=2", "Report [p] 0 250 a=1000 A=2000"),
-    (
-        "report|p|b=1|a=2|ab=3",
-        "Report [p] 0 250 b=1000 a=2000 ab=3000",
-    ),
-    ("report|p|a=1|a=1", "word 4"),
-    ("report|p|a=1|b=2|a=x", "word 5"),
-    ("report|p|a=1|--cell|100|b", "word 6"),
-    ("report|p|a=1|--cell", "word 5"),
-    (
-        "report|p|a=1|--raw|0,0,0,1,1,1|b=2|--cell|100|c=3",
-        "Report [p] 0 100 0,0,0,1000,1000,1000 a=1000 b=2000 c=3000",
-    ),
-    (
-        "report|p|c=3|b=2|--cell|100|a=1|--raw|0,0,0,1,1,1",
-        "Report [p] 0 100 0,0,0,1000,1000,1000 c=3000 b=2000 a=1000",
-    ),
-    ("report|p|--cell|100|a=1|--raw|0,0,0,1,1,1|a=2", "word 8"),
-    ("verify|p|q|a=1|r=2|s", "word 6"),
-];
-
-#[test]
-fn assignments_are_read(rt: HostRuntime) -> Result<(), Fail> {
-    for (line, answer) in ASSIGNMENTS {
-        let text = said(rt.alloc(), line)?;
-        assert_eq!(rt; text.as_str(), answer);
+fn refusals_in_their_order(rt: HostRuntime) -> Result<(), Fail> {
+    let rows: [(&[Change], &str, JobFault); 9] = [
+        (
+            &[
+                (
+                    2,
+                    "WORKPLAN('main',(#34),$,#5,$);#34=WORKPLAN('',(),$,#35,$);#35=SETUP('',$,#7,())",
+                ),
+                SKEW_WORKPIECE,
+            ],
+            "",
+            JobFault::SecondSetup(34),
+        ),
+        (
+            &[SKEW_WORKPIECE, SKEW_BLOCK],
+            "",
+            JobFault::Frame(FrameFault::Skew(30)),
+        ),
+        (
+            &[SKEW_WORKPIECE],
+            "0,0,0,1,2,3",
+            JobFault::Frame(FrameFault::Skew(30)),
+        ),
+        (
+            &[SKEW_BLOCK, LOW_SECURITY],
+            "",
+            JobFault::Frame(FrameFault::Skew(32)),
+        ),
+        (
+            &[(6, "BLOCK('raw',#12,20.,20.,1990.002)"), LOW_SECURITY],
+            "",
+            JobFault::Frame(FrameFault::OutOfRange(12)),
+        ),
+        (&[NO_BLOCK, LOW_SECURITY], "", JobFault::RawUnknown),
+        (
+            &[LOW_SECURITY, (15, "TOLERANCED_LENGTH_MEASURE(0.,$)")],
+            "",
+            JobFault::SecLow,
+        ),
+        (&[], "0,0,0,20,20,20.001", JobFault::SecLow),
+        (
+            &[(17, "CUTTING_TOOL('mill 8',#23,(),5.999,$,$)")],
+            "",
+            JobFault::ShortTool(4),
+        ),
+    ];
+    for (changes, raw, wanted) in rows {
+        let checked = part(rt.alloc(), changes)?;
+        let options = options(rt.alloc(), raw)?;
+        match job(rt.alloc(), &checked, &options) {
+            Ok(_) => return Err(Fail::from("a job")),
+            Err(told) => assert_eq!(rt; told, wanted),
+        }
     }
     Ok(())
 }

@@ -1,0 +1,5 @@
+mod Chains
+mod PutLemmas
+mod Proper
+mod OutlineProofs
+mod StepProofs

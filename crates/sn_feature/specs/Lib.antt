@@ -1,0 +1,9 @@
+pub mod Entities
+pub mod Targets
+pub mod Placement
+pub mod Refusal
+pub mod Outline
+pub mod Tooling
+pub mod Step
+pub mod OutlineLaws
+pub mod StepLaws

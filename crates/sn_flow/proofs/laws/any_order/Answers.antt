@@ -1,5 +1,0 @@
-use Rattle.sn_flow.proofs.Orders.{options_change_places}
-use Rattle.sn_flow.proofs.laws.any_order.Goals as goal
-
-pub returns : goal.returns
-returns c = options_change_places

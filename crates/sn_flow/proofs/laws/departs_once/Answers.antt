@@ -1,9 +1,0 @@
-use Rattle.sn_flow.specs.Command.{IsAccepted}
-use Rattle.sn_flow.proofs.Departures.{one_place, no_place}
-use Rattle.sn_flow.proofs.laws.departs_once.Goals as goal
-
-pub returns-clause-once : goal.returns-clause-once
-returns-clause-once c = one_place IsAccepted
-
-pub returns-clause-either : goal.returns-clause-either
-returns-clause-either c = no_place IsAccepted

@@ -1,5 +1,0 @@
-use Rattle.sn_flow.proofs.CommandLemmas.{says_one_thing}
-use Rattle.sn_flow.proofs.laws.one_meaning.Goals as goal
-
-pub returns : goal.returns
-returns c = says_one_thing c.one_reading.ensures.number c.one_rounding.ensures.product

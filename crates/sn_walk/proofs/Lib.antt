@@ -1,0 +1,6 @@
+mod ConditionLemmas
+mod DepthLemmas
+mod NodeLemmas
+mod OutcomeLemmas
+mod PendingLemmas
+mod StepLemmas

@@ -1,0 +1,12 @@
+pub mod Boxes
+pub mod CommandFaults
+pub mod CommandLemmas
+pub mod Cutting
+pub mod Departures
+pub mod Leading
+pub mod NumberLemmas
+pub mod Orders
+pub mod Samples
+pub mod SettingFaults
+pub mod SettingLemmas
+pub mod WordLemmas
