@@ -17,11 +17,11 @@ use Rattle.sn_gwrite.proofs.ShownLengths.{length_text-shown}
 use Rattle.sn_gwrite.proofs.NumberWords.{AllNumeric, digits_numeric, length_numeric}
 
 -- no byte of the text is a line feed
-abbrev IsOneLine : List ℕ → Type 0
+abbrev pub IsOneLine : List ℕ → Type 0
 IsOneLine [] = Unit {0}
 IsOneLine (b ∷ bs) = ((b == 10) ≡ false) × IsOneLine bs
 
-one_line_append : (xs ys : List ℕ) → IsOneLine xs → IsOneLine ys → IsOneLine (xs ++ ys)
+pub one_line_append : (xs ys : List ℕ) → IsOneLine xs → IsOneLine ys → IsOneLine (xs ++ ys)
 one_line_append [] ys h k = k
 one_line_append (x ∷ xs) ys h k = (h.0, one_line_append xs ys h.1 k)
 
@@ -32,7 +32,7 @@ numeric_line : (text : List ℕ) → AllNumeric text → IsOneLine text
 numeric_line [] h = tt
 numeric_line (b ∷ bs) h = (numeric_byte b h.0, numeric_line bs h.1)
 
-decimal_line : (n : ℕ) → n < 2 ^ 64 → IsOneLine (decimal n)
+pub decimal_line : (n : ℕ) → n < 2 ^ 64 → IsOneLine (decimal n)
 decimal_line n fits =
     let numeral = decimal_is_IsNumeral n fits in
     numeric_line (decimal n) (digits_numeric (decimal n) numeral.0.1)
@@ -53,7 +53,7 @@ all_one_line : (text : List ℕ) → is_one_line text ≡ true → IsOneLine tex
 all_one_line [] h = tt
 all_one_line (b ∷ bs) h = let p = and_parts (not (b == 10)) (is_one_line bs) h in (not-true (b == 10) p.0, all_one_line bs p.1)
 
-form_line : (form : Form) → IsProper form → IsOneLine (form_text form)
+pub form_line : (form : Form) → IsProper form → IsOneLine (form_text form)
 form_line PercentSign h = (refl, tt)
 form_line AllModes h = all_one_line (form_text AllModes) refl
 form_line (ToolNote number instance) h =
@@ -76,7 +76,7 @@ form_line (PlaneMotion mode x y) h =
 form_line ProgramEnd h = (refl, (refl, tt))
 
 -- the first line of a text
-first_line : (line rest : List ℕ) → IsOneLine line → lines_of (line ++ 10 ∷ rest) ≡ line ∷ lines_of rest
+pub first_line : (line rest : List ℕ) → IsOneLine line → lines_of (line ++ 10 ∷ rest) ≡ line ∷ lines_of rest
 first_line [] rest h = refl
 first_line (b ∷ bs) rest h = rw (h.0, first_line bs rest h.1) refl
 

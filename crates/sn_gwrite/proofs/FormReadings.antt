@@ -157,7 +157,7 @@ plane_read mode x y h k =
 
 -- ---- comments
 
-note_read : (number instance : ℕ) → number < 2 ^ 64 → instance < 2 ^ 64
+pub note_read : (number instance : ℕ) → number < 2 ^ 64 → instance < 2 ^ 64
     → LineText (form_text (ToolNote number instance)) (form_block (ToolNote number instance))
 note_read number instance h k =
     let first = decimal_is_IsNumeral number (omega arith) in

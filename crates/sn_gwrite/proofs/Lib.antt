@@ -3,8 +3,12 @@ pub mod Digits
 pub mod FormLines
 pub mod FormReadings
 pub mod ItemReadings
+pub mod LineRuns
 pub mod NumberWords
+pub mod OneHole
 pub mod PartLines
+pub mod PartMeanings
+pub mod PartRuns
 pub mod Pieces
 pub mod ShownLengths
 pub mod WordReadings

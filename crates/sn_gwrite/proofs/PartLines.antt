@@ -35,13 +35,13 @@ tools_proper : (number : ℕ) (tools : List ℕ) → number + length tools ≤ 2
 tools_proper number [] few each = tt
 tools_proper number (t ∷ ts) few each = ((omega arith, each 0 0 (omega arith)), tools_proper (number + 1) ts (omega arith) (λ k d h. each (suc k) d (omega arith)))
 
+pub head-text : (tools : List ℕ) → head_text tools ≡ forms_text (head_forms tools)
+unfolding head_text
+head-text tools = ap (λ rest. codes "%\nG21 G90 G17 G94 G40 G61\n" ++ rest) (tools_text-forms 1 tools)
+
 pub head-forms : (tools : List ℕ) → length tools < 2 ^ 32 → All (λ t. t < 2 ^ 32) tools
     → IsTextOf (head_text tools) (head_forms tools)
-unfolding head_text
-head-forms tools few each = record {
-  written = ap (λ rest. codes "%\nG21 G90 G17 G94 G40 G61\n" ++ rest) (tools_text-forms 1 tools);
-  proper = (tt, (tt, tools_proper 1 tools (omega arith) each));
-}
+head-forms tools few each = record { written = head-text tools; proper = (tt, (tt, tools_proper 1 tools (omega arith) each)) }
 
 pub mark-forms : (ws : ℕ) → 1 ≤ ws → ws < 2 ^ 32 → IsTextOf (mark_text ws) (mark_forms ws)
 unfolding mark_text

@@ -1,7 +1,8 @@
--- What an emitter keeps of the program that it writes, and what a call may follow (this project's own).
-use Rattle.std.specs.Prelude.{ℕ, ◌≡◌, ◌≢◌, ◌≤◌, ◌⊎◌, Option, None, Some, IsSome}
+-- MEANING: what an emitter keeps of the program that it writes, and what a call may follow (this project's own).
+use Rattle.std.specs.Prelude.{ℕ, ◌≡◌, ◌≢◌, ◌≤◌, ◌⊎◌, Option, None, Some, IsSome, IfSome}
 use Rattle.sn_geom.specs.declared.limits.TheConstants.{MOST_RATE, MOST_TOOL}
 use Rattle.sn_geom.specs.declared.units.Pt3.{Pt3}
+use Rattle.sn_geom.specs.Length.{IsLength}
 use Rattle.sn_geom.specs.Tip.{tip_after}
 use Rattle.sn_gwrite.specs.declared.kept.Stage.{Stage}
 use Rattle.sn_gwrite.specs.declared.kept.Stage.TheVariants.{Unused, Begun, Ended, Failed}
@@ -67,6 +68,19 @@ IsToolNumber k = (1 ≤ k) × (k ≤ MOST_TOOL)
 -- a speed in rev/min or a feed in mm/min
 abbrev pub IsRate : ℕ → Type 0
 IsRate rate = (1 ≤ rate) × (rate ≤ MOST_RATE)
+
+-- what every emitter keeps: the number of a tool, rates, and both rates where the spindle turns
+pub record IsKept (kept : Kept) : Type 0 where
+  pub tool : IfSome kept.tool IsToolNumber
+  pub speed : IfSome kept.speed IsRate
+  pub feed : IfSome kept.feed IsRate
+  pub turning : IsTurning kept → IsSome kept.speed × IsSome kept.feed
+
+-- a point in the range
+pub record IsPoint (point : Pt3) : Type 0 where
+  pub x : IsLength point.x
+  pub y : IsLength point.y
+  pub z : IsLength point.z
 
 -- a motion that is not slanted, and ends at another point than it starts from
 pub record IsStraight (from to : Pt3) : Type 0 where

@@ -1,4 +1,4 @@
--- The text of a length: millimetres, as a decimal number (this project's own).
+-- MEANING: the text of a length: millimetres, as a decimal number (this project's own).
 use Rattle.std.specs.Prelude.{ℕ, zero, suc, ◌≡◌, ◌+◌, ◌/◌, ◌%◌, ◌^◌, List, [], ◌∷◌, ◌++◌, length, ℤ, unsigned_abs, codes, decimal}
 use Rattle.std.specs.Fmt.{sign_text}
 use Rattle.std.specs.Int.{is_negative}

@@ -1,3 +1,6 @@
+pub mod Agreement
+pub mod AgreementExamples
+pub mod AgreementLaws
 pub mod Forms
 pub mod FormsLaws
 pub mod Kept

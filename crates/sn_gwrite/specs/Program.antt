@@ -1,4 +1,4 @@
--- The text of a program, part by part: after RS274/NGC version 3 (NISTIR 6556), with marks of this project's own.
+-- MEANING: the text of a program, part by part: after RS274/NGC version 3 (NISTIR 6556), with marks of this project's own.
 use Rattle.std.specs.Prelude.{ℕ, ◌+◌, List, [], ◌∷◌, ◌++◌, codes, decimal, if◌then◌else◌}
 use Rattle.std.specs.Ordering.{int_eq}
 use Rattle.sn_geom.specs.declared.units.Pt3.{Pt3}

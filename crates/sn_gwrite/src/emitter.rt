@@ -1,18 +1,22 @@
 //! The emitter.
-ghost use Rattle.std.specs.Prelude.{◌≡◌, ◌≤◌, OnOk, OnErr};
+ghost use Rattle.std.specs.Prelude.{◌≡◌, ◌≤◌, [], ◌∷◌, OnOk, OnErr};
 ghost use Rattle.sn_io.specs.Sink.{Writes};
+ghost use Rattle.sn_geom.specs.Acts.{Mark, PutTool, End};
+ghost use Rattle.sn_gwrite.specs.Agreement.{PartMeans, motion_act};
 ghost use Rattle.sn_gwrite.specs.Program.{head_text, mark_text, change_text, rates_text, motion_text, end_text};
-ghost use Rattle.sn_gwrite.specs.Kept.{IsBegun, HasTool, IsTurning, IsToolNumber, IsRate, MayRapid, MayFeed, unused, begun, with_tool, with_rates, moved, ended, failed};
+ghost use Rattle.sn_gwrite.specs.Kept.{IsKept, IsBegun, HasTool, IsTurning, IsToolNumber, IsRate, MayRapid, MayFeed, unused, begun, with_tool, with_rates, moved, ended, failed};
 
 use crate::kept::{Spindle, Stage};
 use crate::parts::{write_change, write_end, write_head, write_mark, write_motion, write_rates};
+use crate::ranges::{of_point, of_tools};
 use sn_geom::{MotionMode, Pt3, Tip};
 use sn_io::{Sink, WriteFault};
 use std::marker::Model;
 
 /// The writer of one program.
 ///
-/// Each call writes its part of the text to the sink that it is given, and nothing else. After a call that answers
+/// Each call writes its part of the text to the sink that it is given, and nothing else. A machine that agrees with what
+/// the emitter keeps runs that part to the call's acts, and then agrees with what the emitter keeps. After a call that answers
 /// `WriteFault`, the sink has a front of that part, and no further call may come.
 #[derive(Debug, Drop)]
 pub struct Emitter {
@@ -30,7 +34,11 @@ impl Model for Emitter {
 
     ghost Value = { Kept };
 
+    ghost use Rattle.sn_gwrite.specs.Kept.{IsKept};
+
     ghost view = { λ e. record { stage = e.stage; tool = e.tool; speed = e.speed; feed = e.feed; spindle = e.spindle; tip = e.tip } };
+
+    ghost invariant = { λ e. IsKept (record { stage = e.stage; tool = e.tool; speed = e.speed; feed = e.feed; spindle = e.spindle; tip = e.tip }) };
 }
 
 impl Emitter {
@@ -54,8 +62,10 @@ impl Emitter {
         requires { self.old ≡ unused }
         ensures writes { Writes result (S.state sink.old) (S.state sink.new) (head_text tools.now) }
         ensures ok { OnOk result (self.new ≡ begun self.old) }
+        ensures means { OnOk result (PartMeans self.old self.new (head_text tools.now) []) }
         ensures err { OnErr result (self.new ≡ failed self.old) }
     {
+        of_tools(tools);
         self.stage = Stage::Failed;
         write_head(sink, tools)?;
         self.stage = Stage::Begun;
@@ -68,6 +78,7 @@ impl Emitter {
         requires step { 1 ≤ ws }
         ensures writes { Writes result (S.state sink.old) (S.state sink.new) (mark_text ws) }
         ensures ok { OnOk result (self.new ≡ self.old) }
+        ensures means { OnOk result (PartMeans self.old self.new (mark_text ws) (Mark ws ∷ [])) }
         ensures err { OnErr result (self.new ≡ failed self.old) }
     {
         self.stage = Stage::Failed;
@@ -82,6 +93,7 @@ impl Emitter {
         requires number { IsToolNumber k }
         ensures writes { Writes result (S.state sink.old) (S.state sink.new) (change_text k) }
         ensures ok { OnOk result (self.new ≡ with_tool self.old k) }
+        ensures means { OnOk result (PartMeans self.old self.new (change_text k) (PutTool k ∷ [])) }
         ensures err { OnErr result (self.new ≡ failed self.old) }
     {
         self.stage = Stage::Failed;
@@ -100,6 +112,7 @@ impl Emitter {
         requires feed { IsRate feed }
         ensures writes { Writes result (S.state sink.old) (S.state sink.new) (rates_text speed feed) }
         ensures ok { OnOk result (self.new ≡ with_rates self.old speed feed) }
+        ensures means { OnOk result (PartMeans self.old self.new (rates_text speed feed) []) }
         ensures err { OnErr result (self.new ≡ failed self.old) }
     {
         self.stage = Stage::Failed;
@@ -120,8 +133,11 @@ impl Emitter {
         ensures writes { Writes result (S.state sink.old) (S.state sink.new)
             (motion_text MotionMode.Rapid self.old.tip p.now) }
         ensures ok { OnOk result (self.new ≡ moved self.old p.now) }
+        ensures means { OnOk result (PartMeans self.old self.new (motion_text MotionMode.Rapid self.old.tip p.now) (motion_act MotionMode.Rapid self.old p.now ∷ [])) }
         ensures err { OnErr result (self.new ≡ failed self.old) }
     {
+        self.rule();
+        of_point(p);
         self.motion(sink, MotionMode::Rapid, p)
     }
 
@@ -134,8 +150,11 @@ impl Emitter {
         ensures writes { Writes result (S.state sink.old) (S.state sink.new)
             (motion_text MotionMode.Feed self.old.tip p.now) }
         ensures ok { OnOk result (self.new ≡ moved self.old p.now) }
+        ensures means { OnOk result (PartMeans self.old self.new (motion_text MotionMode.Feed self.old.tip p.now) (motion_act MotionMode.Feed self.old p.now ∷ [])) }
         ensures err { OnErr result (self.new ≡ failed self.old) }
     {
+        self.rule();
+        of_point(p);
         self.motion(sink, MotionMode::Feed, p)
     }
 
@@ -144,12 +163,21 @@ impl Emitter {
         requires { IsBegun self.old }
         ensures writes { Writes result (S.state sink.old) (S.state sink.new) end_text }
         ensures ok { OnOk result (self.new ≡ ended self.old) }
+        ensures means { OnOk result (PartMeans self.old self.new end_text (End ∷ [])) }
         ensures err { OnErr result (self.new ≡ failed self.old) }
     {
         self.stage = Stage::Failed;
         write_end(sink)?;
         self.stage = Stage::Ended;
         Ok(())
+    }
+
+    /// Hands on what holds of every emitter: the number of its tool and its rates are within their limits, and it has
+    /// both rates where the spindle turns.
+    pub fn rule(&self)
+        ensures { IsKept self.now }
+    {
+        let _stage = &self.stage;
     }
 
     fn motion<S: Sink>(

@@ -2,6 +2,8 @@
 
 ghost use Rattle.sn_gwrite.specs.Length.{LengthTextShowsLength, TextShowsOneLength};
 ghost use Rattle.sn_gwrite.specs.FormsLaws.{FormsAreRead};
+ghost use Rattle.sn_gwrite.specs.AgreementExamples.{OneHoleMeans};
+ghost use Rattle.sn_gwrite.specs.AgreementLaws.{HeadMeans, MarkMeans, ChangeMeans, RatesMean, RapidMeans, FeedMeans, EndMeans, PartsMeanInTurn, NoPartMeansNothing, PartsAreProgram, StatesAgreeByStage, KeptStays, UnusedIsKept};
 ghost use Rattle.sn_gwrite.specs.PartFormsLaws.{FormsTextIsLines, HeadIsForms, MarkIsForms, ChangeIsForms, RatesIsForms, MotionIsForms, EndIsForms};
 
 /// The law that the text of a length, read as a decimal number of millimetres, is that length.
@@ -33,4 +35,37 @@ pub fn parts_are_forms()
     ensures rates { RatesIsForms }
     ensures motion { MotionIsForms }
     ensures end { EndIsForms }
+{}
+
+/// The laws of what each part of a program means, from every state of the machine that agrees with what is kept before
+/// it to one that agrees with what is kept then.
+pub fn parts_mean()
+    ensures head { HeadMeans }
+    ensures mark { MarkMeans }
+    ensures change { ChangeMeans }
+    ensures rates { RatesMean }
+    ensures rapid { RapidMeans }
+    ensures feed { FeedMeans }
+    ensures end { EndMeans }
+{}
+
+/// The laws of parts in a row: they mean their acts in a row, and from the first on they are a program; and a program
+/// worked by hand.
+pub fn parts_in_a_row()
+    ensures in_turn { PartsMeanInTurn }
+    ensures none { NoPartMeansNothing }
+    ensures program { PartsAreProgram }
+    ensures worked { OneHoleMeans }
+{}
+
+/// The law of agreement: what a state that agrees is before the head, between, after the end, and after a write that
+/// failed.
+pub fn states_agree()
+    ensures { StatesAgreeByStage }
+{}
+
+/// The laws of what every emitter keeps, call by call.
+pub fn kept_values()
+    ensures first { UnusedIsKept }
+    ensures later { KeptStays }
 {}
