@@ -1,179 +1,143 @@
--- Where words that are no command depart from one.
-use Rattle.std.proofs.Common.{ℕ, ◌≡◌, ◌≢◌, ◌+◌, ◌-◌, ◌*◌, ◌/◌, ◌≤◌, ◌<◌, List, [], ◌∷◌, ◌++◌, length, take, codes, Some, refl, sym, ap, ◌∙◌, subst, arith, length-append, lit≤, lit<}
-use Rattle.std.proofs.lemmas.List.{take_all}
-use Rattle.std.proofs.lemmas.Fmt.{decimal_is_IsNumeral}
-use Rattle.std.proofs.Math.Seq.{take-append_seam, take-append-add}
-use Rattle.std.specs.Prelude.{slice_get, decimal}
-use Rattle.stepmill.specs.Command.{IsCommand, IsFileWord, IsPitchWord, IsAccepted, BeginsCommand, DepartsAt}
-use Rattle.sn_geom.specs.declared.limits.TheConstants.{LEAST_PITCH, PER_MM}
+-- Words that are carried out, and where others are turned away.
+use Rattle.std.proofs.Common.{ℕ, zero, suc, ◌≡◌, ◌≢◌, ◌-◌, inl, inr, List, [], ◌∷◌, ◌++◌, length, take, codes, Some, Result, Ok, Err, IfOk, refl, sym, ap, subst, ◌∙◌, arith}
+use Rattle.std.specs.Prelude.{slice_get}
+use Rattle.std.proofs.lemmas.List.Elements.{All-nil, All-cons}
+use Rattle.sn_words.proofs.Departures.{departs_first, departs_empty, one_place}
+use Rattle.sn_words.specs.Command.{IsAccepted, IsCommand, IsRead, Begins, DepartsAt, TakesFiles, TakesSeed, command_word, with_files}
+use Rattle.sn_words.specs.Options.{Options}
+use Rattle.sn_words.specs.WordForms.{IsFileWord}
+use Rattle.sn_words.specs.declared.fault.WordFault.{WordFault}
+use Rattle.sn_words.specs.declared.options.Command.{Command}
+use Rattle.sn_words.specs.declared.options.Command.TheVariants.{Compile}
+use Rattle.stepmill.specs.Command.{IsCarriedOut, IsCompile, IsTurnedAway}
+use Rattle.stepmill.specs.CommandLaws.{CompileGoesByTheGrammar, OthersAreTurnedAway, OnePlace}
 
--- the least pitch, in digits
-sample : List ℕ
-sample = decimal (LEAST_PITCH / (PER_MM / 1000))
+-- Words that are carried out.
 
-sample-pitch : IsPitchWord sample LEAST_PITCH
-unfolding sample
-sample-pitch =
-    let h = decimal_is_IsNumeral (LEAST_PITCH / (PER_MM / 1000)) (lit< tt) in
-    record { digits = h.0; value = ap (λ n. n * (PER_MM / 1000)) h.1; within = record { at_least = lit≤ tt; at_most = lit≤ tt } }
+file_word : IsFileWord (codes "p")
+file_word = λ e. absurd (omega arith)
 
-accepted : (part number : List ℕ) (pitch : ℕ) → IsFileWord part → IsPitchWord number pitch
-    → IsAccepted (codes "compile" ∷ part ∷ codes "--cell" ∷ number ∷ [])
-accepted part number pitch file cell = (part, pitch, record { number = number; order = refl; file = file; cell = cell })
-
--- the words end too early
-departs-short : (words : List (List ℕ)) → BeginsCommand words → ¬ IsAccepted words → DepartsAt words (length words + 1)
-departs-short words begins not =
-    let whole : take (length words + 1 - 1) words ≡ words = take_all _ words (omega arith) in
+-- some words are carried out
+some_command : Begins IsCarriedOut []
+some_command = (
+  codes "compile" ∷ codes "p" ∷ [],
+  (
+    codes "p",
+    with_files Compile (codes "p" ∷ []) [],
     record {
-      first = omega arith;
-      before = rw whole begins;
-      at = (λ within. absurd (omega arith), λ past. (refl, not));
-    }
+      accepted = inl (record {
+        command = Compile;
+        files = codes "p" ∷ [];
+        rest = [];
+        settings = [];
+        order = refl;
+        takes = refl;
+        names = All-cons IsFileWord (codes "p") [] file_word (All-nil IsFileWord);
+        settings_are = record { order = refl; read = All-nil IsRead; single = λ i j d before within. absurd (omega arith) };
+        says = refl;
+      });
+      compiles = refl;
+      file = refl;
+    },
+  ),
+)
 
--- the first word that begins no command behind those before it
-departs-word : (before : List (List ℕ)) (word : List ℕ) (after : List (List ℕ))
-    → BeginsCommand before → ¬ BeginsCommand (before ++ word ∷ []) → DepartsAt (before ++ word ∷ after) (length before + 1)
-departs-word before word after begins not =
-    let front : take (length before + 1 - 1) (before ++ word ∷ after) ≡ before =
-    (let same : length before + 1 - 1 ≡ length before = omega arith in rw same (take-append_seam before (word ∷ after))) in
-    let up_to : take (length before + 1) (before ++ word ∷ after) ≡ before ++ word ∷ [] = take-append-add before (word ∷ after) 1 in
-    record {
-      first = omega arith;
-      before = rw front begins;
-      at = (λ within. rw up_to not, λ past. absurd (omega (arith, length-append before (word ∷ after))));
-    }
+first_byte : List ℕ → ℕ
+first_byte [] = 0
+first_byte (c ∷ cs) = c
 
-file : List ℕ
-file = 120 ∷ []
+is_compile : (c : Command) → codes "compile" ≡ command_word c → c ≡ Compile
+unfolding first_byte
+is_compile Compile e = refl
+is_compile c e = let h = ap first_byte e in absurd (omega (arith, h))
 
-begins-0 : BeginsCommand []
-unfolding file
-begins-0 = (_, accepted file sample LEAST_PITCH (λ e. cc) sample-pitch)
+one_file : (files : List (List ℕ)) → length files ≡ 1 → (part : List ℕ) × (files ≡ part ∷ [])
+one_file [] e = absurd (omega arith)
+one_file (part ∷ []) e = (part, refl)
+one_file (part ∷ other ∷ more) e = absurd (omega arith)
 
-begins-1 : BeginsCommand (codes "compile" ∷ [])
-unfolding file
-begins-1 = (file ∷ codes "--cell" ∷ sample ∷ [], accepted file sample LEAST_PITCH (λ e. cc) sample-pitch)
+-- what the grammar says of words behind compile
+asks : (later : List (List ℕ)) (o : Options) → IsCommand (codes "compile" ∷ later) o → (part : List ℕ) × IsCompile (codes "compile" ∷ later) part o
+asks later o (inl h) =
+    let command = is_compile h.command (let order = h.order in cc) in
+    let (part, file) = one_file h.files (subst (λ c. TakesFiles c (length h.files)) command h.takes) in (
+      part,
+      record {
+        accepted = inl h;
+        compiles = ap (λ (p : Options). p.command) h.says ∙ command;
+        file = ap (λ (p : Options). p.files) h.says ∙ file;
+      },
+    )
+asks later o (inr h) = absurd (subst TakesSeed (is_compile h.command (let order = h.order in cc)) h.takes)
 
-begins-2 : (part : List ℕ) → IsFileWord part → BeginsCommand (codes "compile" ∷ part ∷ [])
-begins-2 part is_file = (codes "--cell" ∷ sample ∷ [], accepted part sample LEAST_PITCH is_file sample-pitch)
+carried : (later : List (List ℕ)) → IsAccepted (codes "compile" ∷ later) → IsCarriedOut (codes "compile" ∷ later)
+carried later (o, command) = let (part, compile) = asks later o command in (part, o, compile)
 
-begins-3 : (part : List ℕ) → IsFileWord part → BeginsCommand (codes "compile" ∷ part ∷ codes "--cell" ∷ [])
-begins-3 part is_file = (sample ∷ [], accepted part sample LEAST_PITCH is_file sample-pitch)
+accepted : (words : List (List ℕ)) → IsCarriedOut words → IsAccepted words
+accepted words (part, o, compile) = (o, compile.accepted)
 
-begins-4 : (part number : List ℕ) (pitch : ℕ) → IsFileWord part → IsPitchWord number pitch
-    → BeginsCommand (codes "compile" ∷ part ∷ codes "--cell" ∷ number ∷ [])
-begins-4 part number pitch is_file is_pitch = ([], accepted part number pitch is_file is_pitch)
+first_is : (word : List ℕ) (later : List (List ℕ)) → IsCarriedOut (word ∷ later) → word ≡ codes "compile"
+first_is word later (part, o, compile) = elim compile.accepted [
+  | inl h ↦
+      let command : h.command ≡ Compile = sym (ap (λ (p : Options). p.command) h.says) ∙ compile.compiles in
+      let order = h.order in
+      let same : word ≡ command_word h.command = cc in
+      same ∙ ap command_word command
+  | inr h ↦ absurd (subst TakesSeed (sym (ap (λ (p : Options). p.command) h.says) ∙ compile.compiles) h.takes)
+]
 
-nothing : (words : List (List ℕ)) → length words ≤ 0 → words ≡ []
-nothing [] h = refl
-nothing (word ∷ words) h = absurd (omega arith)
+-- Words that are turned away.
 
-pub at_start : (words : List (List ℕ)) → (slice_get words 0 ≢ Some (codes "compile")) → DepartsAt words 1
-at_start [] other = departs-short [] begins-0 (λ found. let order = found.2.order in cc)
-at_start (word ∷ words) other = departs-word [] word words begins-0 (λ found.
-    let order = found.1.2.order in
-    let same : word ≡ codes "compile" = cc in
-    other (ap Some same))
+others : (word : List ℕ) (later : List (List ℕ)) → word ≢ codes "compile" → IsTurnedAway (word ∷ later) 1
+others word later other = departs_first IsCarriedOut word later some_command (λ more command. other (first_is word more command))
 
-departs-2 : (words : List (List ℕ)) → ((word : List ℕ) → slice_get (codes "compile" ∷ words) 1 ≡ Some word → ¬ IsFileWord word)
-    → DepartsAt (codes "compile" ∷ words) 2
-departs-2 [] none = departs-short (codes "compile" ∷ []) begins-1 (λ found. let order = found.2.order in cc)
-departs-2 (word ∷ words) none = departs-word (codes "compile" ∷ []) word words begins-1 (λ found.
-    let order = found.1.2.order in
-    let same : word ≡ found.1.0 = cc in
-    none word refl (subst IsFileWord (sym same) found.1.2.file))
+-- words that do not begin with compile
+pub turned_away : (words : List (List ℕ)) → slice_get words 0 ≢ Some (codes "compile") → IsTurnedAway words 1
+turned_away [] other = departs_empty IsCarriedOut some_command (λ (part, o, compile). elim compile.accepted [
+  | inl h ↦ let order = h.order in cc
+  | inr h ↦ let order = h.order in cc
+])
+turned_away (word ∷ later) other = others word later (λ e. other (ap Some e))
 
-departs-3 : (part : List ℕ) (words : List (List ℕ)) → IsFileWord part
-    → (slice_get (codes "compile" ∷ part ∷ words) 2 ≢ Some (codes "--cell")) → DepartsAt (codes "compile" ∷ part ∷ words) 3
-departs-3 part [] is_file other = departs-short (codes "compile" ∷ part ∷ []) (begins-2 part is_file) (λ found. let order = found.2.order in cc)
-departs-3 part (word ∷ words) is_file other = departs-word (codes "compile" ∷ part ∷ []) word words (begins-2 part is_file) (λ found.
-    let order = found.1.2.order in
-    let same : word ≡ codes "--cell" = cc in
-    other (ap Some same))
+begins_too : (later : List (List ℕ)) (k : ℕ) → Begins IsAccepted (take k (codes "compile" ∷ later)) → Begins IsCarriedOut (take k (codes "compile" ∷ later))
+begins_too later zero begins = some_command
+begins_too later (suc k) (more, command) = (more, carried (take k later ++ more) command)
 
-departs-4 : (part : List ℕ) (words : List (List ℕ)) → IsFileWord part
-    → ((word : List ℕ) (pitch : ℕ) → slice_get (codes "compile" ∷ part ∷ codes "--cell" ∷ words) 3 ≡ Some word → ¬ IsPitchWord word pitch)
-    → DepartsAt (codes "compile" ∷ part ∷ codes "--cell" ∷ words) 4
-departs-4 part [] is_file none =
-    departs-short (codes "compile" ∷ part ∷ codes "--cell" ∷ []) (begins-3 part is_file) (λ found. let order = found.2.order in cc)
-departs-4 part (word ∷ words) is_file none = departs-word (codes "compile" ∷ part ∷ codes "--cell" ∷ []) word words (begins-3 part is_file) (λ found.
-    let order = found.1.2.order in
-    let same : word ≡ found.1.2.number = cc in
-    none word found.1.1 refl (subst (λ number. IsPitchWord number found.1.1) (sym same) found.1.2.cell))
+departs_too : (later : List (List ℕ)) (place : ℕ) → DepartsAt (codes "compile" ∷ later) place → IsTurnedAway (codes "compile" ∷ later) place
+departs_too later place d = record {
+  first = d.first;
+  before = begins_too later (place - 1) d.before;
+  at = (
+    λ within begins. d.at.0 within (begins.0, accepted _ begins.1),
+    λ past. ((d.at.1 past).0, (λ command. (d.at.1 past).1 (accepted _ command))),
+  );
+}
 
-departs-5 : (part number : List ℕ) (pitch : ℕ) (words : List (List ℕ)) → IsFileWord part → IsPitchWord number pitch
-    → 4 < length (codes "compile" ∷ part ∷ codes "--cell" ∷ number ∷ words)
-    → DepartsAt (codes "compile" ∷ part ∷ codes "--cell" ∷ number ∷ words) 5
-departs-5 part number pitch [] is_file is_pitch long = absurd (omega arith)
-departs-5 part number pitch (word ∷ words) is_file is_pitch long =
-    departs-word (codes "compile" ∷ part ∷ codes "--cell" ∷ number ∷ []) word words (begins-4 part number pitch is_file is_pitch) (λ found.
-    let order = found.1.2.order in cc)
+-- Words that begin with compile, as they are read.
 
--- The words' first places, taken apart.
+begins_with : (words : List (List ℕ)) (word : List ℕ) → slice_get words 0 ≡ Some word → (later : List (List ℕ)) × (words ≡ word ∷ later)
+begins_with [] word e = absurd (cc)
+begins_with (first ∷ later) word e = (later, (let same : first ≡ word = cc in ap (λ w. w ∷ later) same))
 
--- the words after the first
-head : (words : List (List ℕ)) (a : List ℕ) → slice_get words 0 ≡ Some a → (rest : List (List ℕ)) × (words ≡ a ∷ rest)
-head [] a e = absurd (cc)
-head (word ∷ words) a e = let same : word ≡ a = cc in (words, ap (λ w. w ∷ words) same)
+pub asked : (words : List (List ℕ)) (r : Result Options WordFault) → slice_get words 0 ≡ Some (codes "compile")
+    → IfOk r (λ o. IsCommand words o) → IfOk r (λ o. (part : List ℕ) × IsCompile words part o)
+asked words (Ok o) first command =
+    let (later, is) = begins_with words (codes "compile") first in
+    subst (λ w. (part : List ℕ) × IsCompile w part o) (sym is) (asks later o (subst (λ w. IsCommand w o) is command))
+asked words (Err fault) first command = tt
 
-head2 : (words : List (List ℕ)) (a b : List ℕ) → slice_get words 0 ≡ Some a → slice_get words 1 ≡ Some b
-    → (rest : List (List ℕ)) × (words ≡ a ∷ b ∷ rest)
-head2 [] a b e f = absurd (cc)
-head2 (word ∷ words) a b e f =
-    let same : word ≡ a = cc in
-    let h = head words b f in
-    (h.0, let tail = h.1 in cc)
+pub departed : (words : List (List ℕ)) (place : ℕ) → slice_get words 0 ≡ Some (codes "compile") → DepartsAt words place → IsTurnedAway words place
+departed words place first d =
+    let (later, is) = begins_with words (codes "compile") first in
+    subst (λ w. IsTurnedAway w place) (sym is) (departs_too later place (subst (λ w. DepartsAt w place) is d))
 
-head3 : (words : List (List ℕ)) (a b c : List ℕ) → slice_get words 0 ≡ Some a → slice_get words 1 ≡ Some b → slice_get words 2 ≡ Some c
-    → (rest : List (List ℕ)) × (words ≡ a ∷ b ∷ c ∷ rest)
-head3 [] a b c e f g = absurd (cc)
-head3 (word ∷ words) a b c e f g =
-    let same : word ≡ a = cc in
-    let h = head2 words b c f g in
-    (h.0, let tail = h.1 in cc)
+-- Laws.
 
-head4 : (words : List (List ℕ)) (a b c d : List ℕ)
-    → slice_get words 0 ≡ Some a → slice_get words 1 ≡ Some b → slice_get words 2 ≡ Some c → slice_get words 3 ≡ Some d
-    → (rest : List (List ℕ)) × (words ≡ a ∷ b ∷ c ∷ d ∷ rest)
-head4 [] a b c d e f g h = absurd (cc)
-head4 (word ∷ words) a b c d e f g h =
-    let same : word ≡ a = cc in
-    let others = head3 words b c d f g h in
-    (others.0, let tail = others.1 in cc)
+pub compile_goes_by_the_grammar : CompileGoesByTheGrammar
+compile_goes_by_the_grammar later place = ((accepted (codes "compile" ∷ later), carried later), departs_too later place)
 
--- the places at which words may depart, in order
+pub others_are_turned_away : OthersAreTurnedAway
+others_are_turned_away = others
 
-pub at_file : (words : List (List ℕ)) → slice_get words 0 ≡ Some (codes "compile")
-    → ((word : List ℕ) → slice_get words 1 ≡ Some word → ¬ IsFileWord word) → DepartsAt words 2
-at_file words first none =
-    let h = head words (codes "compile") first in
-    subst (λ w. ((word : List ℕ) → slice_get w 1 ≡ Some word → ¬ IsFileWord word) → DepartsAt w 2) (sym h.1) (departs-2 h.0) none
-
-pub at_option : (words : List (List ℕ)) (part : List ℕ) → slice_get words 0 ≡ Some (codes "compile") → slice_get words 1 ≡ Some part
-    → IsFileWord part → (slice_get words 2 ≢ Some (codes "--cell")) → DepartsAt words 3
-at_option words part first second is_file other =
-    let h = head2 words (codes "compile") part first second in
-    subst (λ w. (slice_get w 2 ≢ Some (codes "--cell")) → DepartsAt w 3) (sym h.1) (departs-3 part h.0 is_file) other
-
-pub at_pitch : (words : List (List ℕ)) (part : List ℕ)
-    → slice_get words 0 ≡ Some (codes "compile") → slice_get words 1 ≡ Some part → slice_get words 2 ≡ Some (codes "--cell") → IsFileWord part
-    → ((word : List ℕ) (pitch : ℕ) → slice_get words 3 ≡ Some word → ¬ IsPitchWord word pitch) → DepartsAt words 4
-at_pitch words part first second third is_file none =
-    let h = head3 words (codes "compile") part (codes "--cell") first second third in
-    subst (λ w. ((word : List ℕ) (pitch : ℕ) → slice_get w 3 ≡ Some word → ¬ IsPitchWord word pitch) → DepartsAt w 4) (sym h.1) (departs-4 part h.0 is_file) none
-
-pub at_end : (words : List (List ℕ)) (part number : List ℕ) (pitch : ℕ)
-    → slice_get words 0 ≡ Some (codes "compile") → slice_get words 1 ≡ Some part → slice_get words 2 ≡ Some (codes "--cell")
-    → slice_get words 3 ≡ Some number → IsFileWord part → IsPitchWord number pitch → 4 < length words → DepartsAt words 5
-at_end words part number pitch first second third fourth is_file is_pitch long =
-    let h = head4 words (codes "compile") part (codes "--cell") number first second third fourth in
-    subst (λ w. 4 < length w → DepartsAt w 5) (sym h.1) (departs-5 part number pitch h.0 is_file is_pitch) long
-
-pub command : (words : List (List ℕ)) (part number : List ℕ) (pitch : ℕ)
-    → slice_get words 0 ≡ Some (codes "compile") → slice_get words 1 ≡ Some part → slice_get words 2 ≡ Some (codes "--cell")
-    → slice_get words 3 ≡ Some number → IsFileWord part → IsPitchWord number pitch → length words ≤ 4 → IsCommand words part pitch
-command words part number pitch first second third fourth is_file is_pitch short =
-    let h = head4 words (codes "compile") part (codes "--cell") number first second third fourth in
-    let none : h.0 ≡ [] = nothing h.0 (let n = ap length h.1 in omega arith) in
-    record { number = number; order = h.1 ∙ ap (λ rest. codes "compile" ∷ part ∷ codes "--cell" ∷ number ∷ rest) none; file = is_file; cell = is_pitch }
+pub one_place_alone : OnePlace
+one_place_alone = one_place IsCarriedOut

@@ -3,9 +3,10 @@ use Rattle.std.proofs.Common.{ℕ, ◌≡◌, List, [], ◌∷◌, ◌++◌, map
 use Rattle.sn_geom.specs.Block.{lines_of}
 use Rattle.sn_gwrite.specs.Forms.{Form, form_text, form_block}
 use Rattle.sn_gwrite.specs.PartForms.{AreProper, forms_text}
+use Rattle.sn_gwrite.specs.PartFormsLaws.{IsTextOf}
 use Rattle.sn_gwrite.proofs.FormLines.{forms-lines}
 use Rattle.sn_gwrite.proofs.FormReadings.{forms-read}
-use Rattle.stepmill.specs.Line.{AreBlocks}
+use Rattle.sn_geom.specs.Meaning.{AreBlocks}
 
 says_each : (forms : List Form) → AreProper forms → AreBlocks (map form_text forms) (map form_block forms)
 says_each [] proper = tt
@@ -16,13 +17,10 @@ lines_are forms proper =
     ap lines_of (sym (append-nil (forms_text forms))) ∙ forms-lines forms [] proper ∙ append-nil (map form_text forms)
 
 -- what these lines say
-pub blocks_of_forms : (forms : List Form) → AreProper forms → AreBlocks (lines_of (forms_text forms)) (map form_block forms)
-blocks_of_forms forms proper =
-    subst (λ (lines : List (List ℕ)). AreBlocks lines (map form_block forms)) (sym (lines_are forms proper)) (says_each forms proper)
-
--- the text is lines in these forms
-pub record IsFormed (text : List ℕ) (forms : List Form) : Type 0 where
-  pub is : text ≡ forms_text forms
+pub blocks_of_text : (text : List ℕ) (forms : List Form) → IsTextOf text forms → AreBlocks (lines_of text) (map form_block forms)
+blocks_of_text text forms is =
+    subst (λ (lines : List (List ℕ)). AreBlocks lines (map form_block forms)) (sym (ap lines_of is.written ∙ lines_are forms is.proper))
+    (says_each forms is.proper)
 
 forms_append : (some others : List Form) → forms_text (some ++ others) ≡ forms_text some ++ forms_text others
 forms_append [] others = refl
@@ -30,9 +28,13 @@ forms_append (form ∷ forms) others =
     ap (λ rest. form_text form ++ 10 ∷ rest) (forms_append forms others)
     ∙ sym (append_assoc (form_text form) (10 ∷ forms_text forms) (forms_text others))
 
-pub formed_append : {a b : List ℕ} {some others : List Form} → IsFormed a some → IsFormed b others → IsFormed (a ++ b) (some ++ others)
-formed_append {some = some} {others = others} first second = record { is = rw (first.is, second.is) (sym (forms_append some others)) }
-
-pub proper_append : (some others : List Form) → AreProper some → AreProper others → AreProper (some ++ others)
+proper_append : (some others : List Form) → AreProper some → AreProper others → AreProper (some ++ others)
 proper_append [] others first second = second
 proper_append (form ∷ forms) others first second = (first.0, proper_append forms others first.1 second)
+
+-- one text of lines behind another
+pub text_append : {a b : List ℕ} {some others : List Form} → IsTextOf a some → IsTextOf b others → IsTextOf (a ++ b) (some ++ others)
+text_append {some = some} {others = others} first second = record {
+  written = rw (first.written, second.written) (sym (forms_append some others));
+  proper = proper_append some others first.proper second.proper;
+}

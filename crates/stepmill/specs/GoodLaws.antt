@@ -1,83 +1,30 @@
--- Laws of good programs, by their acts.
-use Rattle.std.specs.Prelude.{◌≡◌, ◌≢◌, ◌⊎◌, ◌<◌, ◌+ℤ◌, ◌≤ℤ◌, ◌<ℤ◌, ◌∷◌, ◌++◌, ℕ, ℤ, pos, List, [], map, length, Contains, slice_get}
-use Rattle.std.specs.Int.{int_min}
-use Rattle.sn_geom.specs.declared.units.Pt.{Pt}
-use Rattle.sn_geom.specs.declared.units.Pt3.{Pt3}
-use Rattle.sn_geom.specs.declared.units.Cell.{Cell}
-use Rattle.sn_geom.specs.Sweep.{Touch, IsVertical}
-use Rattle.sn_geom.specs.Block.{Block, lines_of}
+-- MEANING: laws of the programs of plans (this project's own).
+use Rattle.std.specs.Prelude.{ℕ, ◌<◌, ◌^◌, List}
+use Rattle.std.specs.List.{All}
 use Rattle.sn_outline.specs.Job.{Job}
+use Rattle.sn_outline.specs.JobRule.{IsJob}
 use Rattle.sn_outline.specs.declared.job.StepJob.{StepJob}
-use Rattle.stepmill.specs.Grid.{node_of, low_end}
-use Rattle.stepmill.specs.Region.{InAllowed, IsAllowedHeight}
-use Rattle.stepmill.specs.Acts.{Act}
-use Rattle.stepmill.specs.Acts.Act.{Enter, Locate, Rapid, Feed}
-use Rattle.stepmill.specs.Good.{marks, IsCurrent, IsLeft, AreGood, Good, Means}
-use Rattle.stepmill.specs.Moves.{over}
-use Rattle.sn_geom.specs.LineText.{LineText}
+use Rattle.sn_open.specs.Good.{Good}
+use Rattle.sn_open.specs.Reach.{IsReachable}
+use Rattle.sn_link.specs.declared.moves.Move.{Move}
+use Rattle.sn_link.specs.Plan.{IsPlan, with_moves}
+use Rattle.sn_link.specs.Safe.{AreWithin}
+use Rattle.stepmill.specs.PlanActs.{IsWritableProgram}
+use Rattle.stepmill.specs.Text.{program_text}
 
--- a missing mark, one too many, or one of another step
-abbrev pub GoodMarksAreTheSteps : Type 0
-GoodMarksAreTheSteps =
-    (job : Job) (acts : List Act) (k : ℕ)
-    → (length (marks acts) ≢ length job.steps → ¬ AreGood job acts)
-    × (slice_get (marks acts) k ≢ slice_get (map (λ step. step.ws) job.steps) k → ¬ AreGood job acts)
+-- where its steps reach each cell that has to be cut, the program of the plan of a job is good for the job
+abbrev pub PlansAreGood : Type 0
+PlansAreGood =
+    (job : Job) (plan : List (StepJob × List Move)) → IsJob job → IsReachable job → IsPlan job plan → IsWritableProgram job plan
+    → Good job (program_text job plan)
 
--- after a tool change the tip stays at or above the security height
-abbrev pub GoodEntriesAreSafe : Type 0
-GoodEntriesAreSafe =
-    (job : Job) (before after : List Act)
-    → ((z : ℤ) → z <ℤ job.sec → ¬ AreGood job (before ++ Enter z ∷ after))
-    × ((p : Pt3) → p.z <ℤ job.sec → ¬ AreGood job (before ++ Locate p ∷ after))
+-- the numbers that a job shows of workingsteps and tools are numbers of instances
+pub record HasInstanceNumbers (job : Job) : Type 0 where
+  pub steps : All (λ (step : StepJob). step.ws < 2 ^ 32) job.steps
+  pub tools : All (λ (number : ℕ). number < 2 ^ 32) job.tools
 
--- no tool but the job's moves in rapid, and none of them touches a material cell there
-abbrev pub GoodRapidsAreClear : Type 0
-GoodRapidsAreClear =
-    (job : Job) (before after : List Act) (from to : Pt3) (tool : ℕ)
-    → ((tool ≡ 0) ⊎ (length job.tools < tool) → ¬ AreGood job (before ++ Rapid from to tool ∷ after))
-    × ((step : StepJob) (c : Cell) → Contains job.steps step → step.tool ≡ tool → IsLeft job before c
-    → Touch step.body.d from to (low_end job.pitch c) → ¬ AreGood job (before ++ Rapid from to tool ∷ after))
-
--- no feed comes before the first mark, or with another tool, feed or speed than those of the last mark's step
-abbrev pub GoodFeedsAreTheirSteps : Type 0
-GoodFeedsAreTheirSteps =
-    (job : Job) (before after : List Act) (from to : Pt3) (feed speed tool : ℕ)
-    → (marks before ≡ [] → ¬ AreGood job (before ++ Feed from to feed speed tool ∷ after))
-    × ((step : StepJob) → IsCurrent job before step → (tool ≢ step.tool) ⊎ ((feed ≢ step.feed) ⊎ (speed ≢ step.speed))
-    → ¬ AreGood job (before ++ Feed from to feed speed tool ∷ after))
-
--- no feed touches a material cell over a node or at a height where the step may not cut, or, but where it changes Z alone,
--- one that is at least the point length and the axial depth above the lower end of the way
-abbrev pub GoodFeedsStayAllowed : Type 0
-GoodFeedsStayAllowed =
-    (job : Job) (before after : List Act) (from to : Pt3) (feed speed tool : ℕ) (step : StepJob) (c : Cell)
-    → IsCurrent job before step → IsLeft job before c → Touch step.body.d from to (low_end job.pitch c)
-    → ((¬ InAllowed job step (node_of c)) ⊎ (¬ IsAllowedHeight step c.z) → ¬ AreGood job (before ++ Feed from to feed speed tool ∷ after))
-    × ((¬ IsVertical from to) → (int_min from.z to.z +ℤ pos step.body.e +ℤ pos step.axial) ≤ℤ c.z
-    → ¬ AreGood job (before ++ Feed from to feed speed tool ∷ after))
-
--- Where the security height is not below the raw top, no motion in rapid of a good program touches material, entries after
--- a tool change included: down to their height from any height not below the security height, at any place, and at their
--- height from any place.
-pub record RapidsTouchNothing (job : Job) (before : List Act) (act : Act) : Type 0 where
-  pub enters : (z : ℤ) → act ≡ Enter z → (d : ℕ) (p : Pt) (from : ℤ) (c : Cell) → job.sec ≤ℤ from → IsLeft job before c
-      → ¬ Touch d (over p from) (over p z) (low_end job.pitch c)
-  pub locates : (to : Pt3) → act ≡ Locate to → (d : ℕ) (from : Pt) (c : Cell) → IsLeft job before c
-      → ¬ Touch d (over from to.z) to (low_end job.pitch c)
-  pub moves : (from to : Pt3) (tool : ℕ) → act ≡ Rapid from to tool → (step : StepJob) (c : Cell) → Contains job.steps step → step.tool ≡ tool
-      → IsLeft job before c → ¬ Touch step.body.d from to (low_end job.pitch c)
-
-abbrev pub GoodProgramsMoveClear : Type 0
-GoodProgramsMoveClear =
-    (job : Job) (before after : List Act) (act : Act) → job.high.z ≤ℤ job.sec → AreGood job (before ++ act ∷ after)
-    → RapidsTouchNothing job before act
-
--- a program without lines is good for no job, and so is one with a line that says nothing
-abbrev pub GoodProgramsAreRead : Type 0
-GoodProgramsAreRead =
-    (job : Job) (line program : List ℕ)
-    → (¬ Good job []) × (((block : Block) → ¬ LineText line block) → Contains (lines_of program) line → ¬ Good job program)
-
--- a program means one list of acts
-abbrev pub OneMeaning : Type 0
-OneMeaning = (program : List ℕ) (some others : List Act) → Means program some → Means program others → some ≡ others
+-- a plan whose moves end in the range can be written
+abbrev pub PlansCanBeWritten : Type 0
+PlansCanBeWritten =
+    (job : Job) (plans : List (List Move)) → IsJob job → HasInstanceNumbers job → IsPlan job (with_moves job.steps plans) → All AreWithin plans
+    → IsWritableProgram job (with_moves job.steps plans)

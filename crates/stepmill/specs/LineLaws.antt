@@ -1,15 +1,9 @@
--- Laws of the lines of a program, and of the forms of line that are written.
-use Rattle.std.specs.Prelude.{◌≡◌, ◌+◌, ◌∷◌, pos, neg_ℤ, [], codes}
+-- MEANING: laws of the forms of line that are written.
+use Rattle.std.specs.Prelude.{◌+◌, pos, neg_ℤ}
 use Rattle.sn_geom.specs.declared.limits.TheConstants.{REACH, MOST_TOOL, MOST_RATE}
-use Rattle.sn_geom.specs.Block.{lines_of}
 use Rattle.sn_gwrite.specs.Forms.{IsProper}
 use Rattle.sn_gwrite.specs.Forms.Form.{StepMark, ToolChange, LengthOffset, SpindleSpeed, FeedRate, HeightMotion, PlaneMotion}
 use Rattle.sn_geom.specs.declared.tip.MotionMode.TheVariants as mode
-
--- a line feed ends a line, and bytes behind the last one are a line
-abbrev pub LinesAreSplit : Type 0
-LinesAreSplit =
-    (lines_of [] ≡ []) × (lines_of (codes "M2\n") ≡ codes "M2" ∷ []) × (lines_of (codes "%\n\nM2") ≡ codes "%" ∷ [] ∷ codes "M2" ∷ [])
 
 -- the greatest numbers of a line that is written
 abbrev pub WordsHaveLimits : Type 0

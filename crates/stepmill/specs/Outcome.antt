@@ -6,22 +6,18 @@ use Rattle.sn_io.specs.Sink.{SinkState, Takes, TakesFront}
 use Rattle.sn_outline.specs.Job.{Job}
 use Rattle.sn_outline.specs.JobRule.{IsJob}
 use Rattle.sn_outline.specs.declared.job.StepJob.{StepJob}
-use Rattle.sn_plain.specs.declared.part.Plain.{Plain}
-use Rattle.sn_p21.specs.Content.{Content}
-use Rattle.sn_p21.specs.FirstFault.{IsFirstFault}
-use Rattle.sn_p21.specs.PartText.{IsPartText}
-use Rattle.sn_plain.specs.Plain.{IsPlain}
+use Rattle.sn_words.specs.Options.{Options}
 use Rattle.stepmill.specs.declared.status.Status.{Status}
-use Rattle.stepmill.specs.declared.status.Status.TheVariants.{Done, PartRefused, BadWords, ReadFault, WriteFault, Memory, TooLong}
+use Rattle.stepmill.specs.declared.status.Status.TheVariants.{Done, PartRefused, BadWords, ReadFault, WriteFault, Memory, Uncovered, TooLong}
 use Rattle.stepmill.specs.declared.refusal.Refusal.{Refusal}
 use Rattle.stepmill.specs.declared.refusal.Refusal.TheVariants as refused
 use Rattle.stepmill.specs.declared.reading.TheConstants.{LONGEST}
-use Rattle.stepmill.specs.Command.{IsAccepted, IsCommand, DepartsAt}
-use Rattle.stepmill.specs.FaultText.{placed_text, fault_text, p21_fault}
-use Rattle.stepmill.specs.Good.{Good}
-use Rattle.stepmill.specs.declared.moves.Move.{Move}
-use Rattle.stepmill.specs.hole.OneHole.{IsBuilt, IsSeen, hole_feature, hole_job}
-use Rattle.stepmill.specs.Plan.{IsPlan}
+use Rattle.stepmill.specs.Part.{IsRefusedPart, IsSoundPart}
+use Rattle.stepmill.specs.Command.{IsCarriedOut, IsCompile, IsTurnedAway}
+use Rattle.stepmill.specs.FaultText.{placed_text, fault_text, part_text, memory_text, model_text, reference_text, job_text, uncovered_text}
+use Rattle.sn_open.specs.Good.{Good}
+use Rattle.sn_link.specs.declared.moves.Move.{Move}
+use Rattle.sn_link.specs.Plan.{IsPlan}
 use Rattle.stepmill.specs.Text.{program_text}
 
 -- the text of a refusal
@@ -29,10 +25,13 @@ abbrev pub refusal_text : Refusal → List ℕ
 refusal_text (refused.Word place) = placed_text (codes "stepmill: word ") place
 refusal_text (refused.Text fault) = fault_text fault
 refusal_text refused.NotRead = codes "stepmill: read fault\n"
-refusal_text refused.NoMemory = codes "stepmill: memory\n"
+refusal_text refused.NoMemory = memory_text
 refusal_text refused.TooLong = codes "stepmill: too long\n"
-refusal_text refused.FormNotBuilt = codes "stepmill: part: form not built\n"
-refusal_text (refused.TooSmall feature) = codes "stepmill: part: #" ++ (decimal feature ++ codes " too small for the grid\n")
+refusal_text (refused.Model fault) = model_text fault
+refusal_text (refused.Reference fault) = reference_text fault
+refusal_text (refused.Job fault) = job_text fault
+refusal_text (refused.Uncovered feature cell) = uncovered_text feature cell
+refusal_text refused.FormNotBuilt = part_text (codes "form not built")
 
 -- the status of a refusal whose text was written
 abbrev pub status_of : Refusal → Status
@@ -41,53 +40,24 @@ status_of refused.NotRead = ReadFault
 status_of refused.NoMemory = Memory
 status_of refused.TooLong = TooLong
 status_of (refused.Text fault) = PartRefused
+status_of (refused.Model fault) = PartRefused
+status_of (refused.Reference fault) = PartRefused
+status_of (refused.Job fault) = PartRefused
+status_of (refused.Uncovered feature cell) = Uncovered
 status_of refused.FormNotBuilt = PartRefused
-status_of (refused.TooSmall feature) = PartRefused
 
--- the file asks for what is refused: it is of no form that can be compiled, or the grid sees nothing of a feature
-abbrev pub IsRefusedForm : Content → ℕ → Refusal → Type 0
-IsRefusedForm f pitch refused.FormNotBuilt = (p : Plain) → IsPlain f p → ¬ IsBuilt p pitch
-IsRefusedForm f pitch (refused.TooSmall feature) =
-    (p : Plain) × IsPlain f p × IsBuilt p pitch × (feature ≡ hole_feature) × ¬ IsSeen p pitch
-IsRefusedForm f pitch _ = ⊥
-
--- The bytes of the part ask for what is refused. A part is judged only where it is not too long.
-abbrev pub IsRefusedPart : List ℕ → ℕ → Refusal → Type 0
-IsRefusedPart bytes pitch (refused.Word place) = ⊥
-IsRefusedPart bytes pitch refused.NotRead = ⊥
-IsRefusedPart bytes pitch refused.NoMemory = ⊥
-IsRefusedPart bytes pitch refused.TooLong = LONGEST < length bytes
-IsRefusedPart bytes pitch (refused.Text fault) = (length bytes ≤ LONGEST) × IsFirstFault bytes (p21_fault fault)
-IsRefusedPart bytes pitch refusal = (length bytes ≤ LONGEST) × ((f : Content) × IsPartText bytes f × IsRefusedForm f pitch refusal)
-
--- The bytes are those of a part that is compiled at the pitch, and this is its job: today a plain part, that can be
--- compiled and of whose hole the grid sees something.
-pub record IsSoundPart (bytes : List ℕ) (pitch : ℕ) (job : Job) : Type 0 where
-  pub short : length bytes ≤ LONGEST
-  pub file : Content
-  pub text : IsPartText bytes file
-  pub part : Plain
-  pub plain : IsPlain file part
-  pub built : IsBuilt part pitch
-  pub seen : IsSeen part pitch
-  pub job_is : job ≡ hole_job part pitch
-
--- a part that is compiled is not refused
-abbrev pub SoundOrRefused : Type 0
-SoundOrRefused = (bytes : List ℕ) (pitch : ℕ) (job : Job) (refusal : Refusal) → IsSoundPart bytes pitch job → ¬ IsRefusedPart bytes pitch refusal
-
--- The words are refused, or the part that they name. The files give bytes for each opening of a name, counted from 0: the
+-- The words are turned away, or the part that they name is refused. The files give bytes for each opening of a name, counted from 0: the
 -- part is the first opening of its name.
 abbrev pub IsRefusal : List (List ℕ) → (List ℕ → ℕ → List ℕ) → Refusal → Type 0
-IsRefusal words given (refused.Word place) = DepartsAt words place
-IsRefusal words given refusal = (name : List ℕ) × (pitch : ℕ) × IsCommand words name pitch × IsRefusedPart (given name 0) pitch refusal
+IsRefusal words given (refused.Word place) = IsTurnedAway words place
+IsRefusal words given refusal = (name : List ℕ) × (o : Options) × IsCompile words name o × IsRefusedPart (given name 0) o refusal
 
--- the words are a command, the part that they name is sound, and this is its job
+-- the words are carried out, the part that they name is sound, and this is its job
 pub record IsJobOf (words : List (List ℕ)) (given : List ℕ → ℕ → List ℕ) (job : Job) : Type 0 where
   pub name : List ℕ
-  pub pitch : ℕ
-  pub command : IsCommand words name pitch
-  pub part : IsSoundPart (given name 0) pitch job
+  pub options : Options
+  pub command : IsCompile words name options
+  pub part : IsSoundPart (given name 0) options job
 
 -- The status, the text for the output and the text for the errors, memory and devices apart: the program of the job and
 -- no message, or no program and the message of a refusal.
@@ -110,18 +80,18 @@ pub record Ends (words : List (List ℕ)) (given : List ℕ → ℕ → List ℕ
   pub told : Takes err err_after message
 
 -- a sound part was read of a name, and this is its job: its bytes are those that the files told, where they tell any
-pub record IsReadOf (files : FilesState) (name : List ℕ) (pitch : ℕ) (job : Job) : Type 0 where
+pub record IsReadOf (files : FilesState) (name : List ℕ) (o : Options) (job : Job) : Type 0 where
   pub bytes : List ℕ
   pub content : IsTrue files.tells → bytes ≡ files.given name 0
-  pub sound : IsSoundPart bytes pitch job
+  pub sound : IsSoundPart bytes o job
 
 -- What is known of a job and its plan before anything is written, whether the files tell their content or not: the words
--- are a command, a sound part was read of the name in them, and these are its job, that keeps the rule of jobs, and its plan.
+-- are carried out, a sound part was read of the name in them, and these are its job, that keeps the rule of jobs, and its plan.
 pub record IsPrepared (words : List (List ℕ)) (files : FilesState) (job : Job) (plan : List (StepJob × List Move)) : Type 0 where
   pub name : List ℕ
-  pub pitch : ℕ
-  pub command : IsCommand words name pitch
-  pub read : IsReadOf files name pitch job
+  pub options : Options
+  pub command : IsCompile words name options
+  pub read : IsReadOf files name options job
   pub rule : IsJob job
   pub planned : IsPlan job plan
 
@@ -136,19 +106,19 @@ pub record Compiles (words : List (List ℕ)) (files : FilesState) (out out_afte
   pub good : Good job (program_text job plan)
 
 -- why the file of a part was refused, with the files before and after
-abbrev pub IsRefusedFile : FilesState → FilesState → List ℕ → ℕ → Refusal → Type 0
-IsRefusedFile before after name pitch (refused.Word place) = ⊥
-IsRefusedFile before after name pitch refused.NotRead = Rises before.faults after.faults
-IsRefusedFile before after name pitch refused.NoMemory = Unit {0}
-IsRefusedFile before after name pitch refusal = IsTrue before.tells → IsRefusedPart (before.given name 0) pitch refusal
+abbrev pub IsRefusedFile : FilesState → FilesState → List ℕ → Options → Refusal → Type 0
+IsRefusedFile before after name o (refused.Word place) = ⊥
+IsRefusedFile before after name o refused.NotRead = Rises before.faults after.faults
+IsRefusedFile before after name o refused.NoMemory = Unit {0}
+IsRefusedFile before after name o refusal = IsTrue before.tells → IsRefusedPart (before.given name 0) o refusal
 
--- Why a command was refused, with the files before and after: words that depart leave the files as they were, and all
--- other refusals are of words that are a command.
+-- Why a command was refused, with the files before and after: words that are turned away leave the files as they were, and
+-- so does memory that is wanting for the words; all other refusals are of words that are carried out.
 abbrev pub Explains : List (List ℕ) → FilesState → FilesState → Refusal → Type 0
-Explains words before after (refused.Word place) = DepartsAt words place × (after ≡ before)
-Explains words before after refused.NotRead = IsAccepted words × Rises before.faults after.faults
-Explains words before after refused.NoMemory = IsAccepted words
-Explains words before after refusal = IsAccepted words × (IsTrue before.tells → IsRefusal words before.given refusal)
+Explains words before after (refused.Word place) = IsTurnedAway words place × (after ≡ before)
+Explains words before after refused.NotRead = IsCarriedOut words × Rises before.faults after.faults
+Explains words before after refused.NoMemory = IsCarriedOut words ⊎ (after ≡ before)
+Explains words before after refusal = IsCarriedOut words × (IsTrue before.tells → IsRefusal words before.given refusal)
 
 -- The words were refused: the refusal has its cause and gives the status, the errors took its text, and the output is
 -- untouched.
@@ -159,14 +129,14 @@ pub record Refuses (words : List (List ℕ)) (before after : FilesState) (status
   pub told : Takes err err_after (refusal_text refusal)
   pub untouched : out_after ≡ out
 
--- What a command does to the files: words that are no command leave them as they are; a part is opened once at the most,
+-- What a command does to the files: words that are not carried out leave them as they are; a part is opened once at the most,
 -- and read to its end or until one byte more than the limit was taken.
 pub record ReadsOnce (words : List (List ℕ)) (before after : FilesState) : Type 0 where
-  pub refused : ¬ IsAccepted words → after ≡ before
+  pub refused : ¬ IsCarriedOut words → after ≡ before
   pub opens : after.opens ≤ before.opens + 1
   pub reads : after.reads ≤ before.reads + LONGEST + 2
   pub bytes : after.bytes ≤ count_after before.bytes (LONGEST + 1)
-  pub no_strange : IsTrue before.tells → (name : List ℕ) (pitch : ℕ) → IsCommand words name pitch → IsTrue (before.has_file name) → after.strange_opens ≡ before.strange_opens
+  pub no_strange : IsTrue before.tells → (name : List ℕ) (o : Options) → IsCompile words name o → IsTrue (before.has_file name) → after.strange_opens ≡ before.strange_opens
 
 -- A write failed: of the text of a refusal that has its cause, with the output untouched, or of the program of a job that
 -- the words ask for, with the errors untouched. A front of that text was written.

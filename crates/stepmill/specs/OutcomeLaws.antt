@@ -1,17 +1,13 @@
--- Laws of what a command ends with.
-use Rattle.std.specs.Prelude.{◌≡◌, ◌↔◌, ℕ, List}
+-- MEANING: laws of what a command ends with.
+use Rattle.std.specs.Prelude.{◌≡◌, ◌⊎◌, ℕ, List}
 use Rattle.sn_io.specs.Files.{FilesState}
 use Rattle.sn_io.specs.Sink.{SinkState}
 use Rattle.sn_outline.specs.Job.{Job}
 use Rattle.stepmill.specs.declared.status.Status.{Status}
-use Rattle.stepmill.specs.declared.status.Status.TheVariants.{BadWords}
+use Rattle.stepmill.specs.declared.status.Status.TheVariants.{BadWords, Memory}
 use Rattle.stepmill.specs.declared.refusal.Refusal.{Refusal}
-use Rattle.stepmill.specs.Command.{IsAccepted, DepartsAt}
+use Rattle.stepmill.specs.Command.{IsCarriedOut}
 use Rattle.stepmill.specs.Outcome.{IsJobOf, IsOutcome, IsRefusal, Refuses}
-
--- words that are no command depart at one place
-abbrev pub OneDeparture : Type 0
-OneDeparture = (words : List (List ℕ)) (m n : ℕ) → DepartsAt words m → DepartsAt words n → m ≡ n
 
 -- words and files ask for one job
 abbrev pub OneJob : Type 0
@@ -28,8 +24,9 @@ OneOutcome =
     → IsOutcome words given status text message → IsOutcome words given other_status other_text other_message
     → (status ≡ other_status) × (text ≡ other_text) × (message ≡ other_message)
 
--- a command that was refused ended with BadWords exactly where its words are no command
+-- a command that was refused ended with BadWords exactly where its words are not carried out, memory apart
 abbrev pub BadWordsAreNoCommand : Type 0
 BadWordsAreNoCommand =
     (words : List (List ℕ)) (before after : FilesState) (status : Status) (out out_after err err_after : SinkState)
-    → Refuses words before after status out out_after err err_after → ((status ≡ BadWords) ↔ (¬ IsAccepted words))
+    → Refuses words before after status out out_after err err_after
+    → (status ≡ BadWords → ¬ IsCarriedOut words) × ((¬ IsCarriedOut words) → (status ≡ BadWords) ⊎ (status ≡ Memory))

@@ -7,11 +7,12 @@ use Rattle.sn_geom.specs.declared.tip.Tip.TheVariants.{Unknown, Height, At}
 use Rattle.sn_gwrite.specs.Kept.{IsRate, IsToolNumber}
 use Rattle.sn_outline.specs.Job.{Job}
 use Rattle.sn_outline.specs.declared.job.StepJob.{StepJob}
-use Rattle.stepmill.specs.Acts.{Act}
-use Rattle.stepmill.specs.Acts.Act.{Mark, PutTool, Enter, Locate, Rapid as AtRapid, Feed as AtFeed, End}
-use Rattle.stepmill.specs.declared.moves.Move.{Move}
-use Rattle.stepmill.specs.declared.moves.Move.TheVariants.{Rapid, Feed}
-use Rattle.stepmill.specs.Moves.{end_of, is_in_spindle, tip_for, tool_after, tip_after_step, AreStraight}
+use Rattle.sn_geom.specs.Acts.{Act}
+use Rattle.sn_geom.specs.Acts.Act.{Mark, PutTool, Enter, Locate, Rapid as AtRapid, Feed as AtFeed, End}
+use Rattle.sn_link.specs.declared.moves.Move.{Move}
+use Rattle.sn_link.specs.declared.moves.Move.TheVariants.{Rapid, Feed}
+use Rattle.sn_link.specs.Moves.{end_of, is_in_spindle, tip_for, tool_after, tip_after_step, AreStraight}
+use Rattle.sn_link.specs.Safe.{AreWithin}
 
 -- The acts of a plan.
 
@@ -46,11 +47,6 @@ abbrev pub program_acts : Job → List (StepJob × List Move) → List Act
 program_acts job plan = steps_acts job None Unknown plan ++ End ∷ []
 
 -- Plans whose program can be written.
-
--- the ends of the moves are in the range
-abbrev pub AreWithin : List Move → Type 0
-AreWithin [] = Unit {0}
-AreWithin (move ∷ moves) = (IsLength (end_of move).x × IsLength (end_of move).y × IsLength (end_of move).z) × AreWithin moves
 
 -- the numbers of a step are within the limits of their words
 pub record IsNumbered (step : StepJob) : Type 0 where

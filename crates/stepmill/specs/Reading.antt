@@ -1,4 +1,4 @@
--- Private: only the functions of this crate cite these words. Reading a file to its end, or to a limit.
+-- PRIVATE: reading a file to its end, or to a limit.
 use Rattle.std.specs.Prelude.{◌≡◌, ℕ, ◌≤◌, List, [], ◌++◌, length, IsTrue}
 use Rattle.sn_io.specs.Count.{Rises}
 use Rattle.sn_io.specs.Files.{FilesState}

@@ -8,9 +8,9 @@ use Rattle.sn_gwrite.specs.Length.{length_text}
 use Rattle.sn_gwrite.specs.Program.{head_text, mark_text, change_text, rates_text, motion_text, mode_text, end_text}
 use Rattle.sn_outline.specs.Job.{Job}
 use Rattle.sn_outline.specs.declared.job.StepJob.{StepJob}
-use Rattle.stepmill.specs.declared.moves.Move.{Move}
-use Rattle.stepmill.specs.declared.moves.Move.TheVariants.{Rapid, Feed}
-use Rattle.stepmill.specs.Moves.{end_of, is_in_spindle, tip_for, tool_after, tip_after_step}
+use Rattle.sn_link.specs.declared.moves.Move.{Move}
+use Rattle.sn_link.specs.declared.moves.Move.TheVariants.{Rapid, Feed}
+use Rattle.sn_link.specs.Moves.{end_of, is_in_spindle, tip_for, tool_after, tip_after_step}
 
 -- a move from a tip
 abbrev pub move_text : Tip → Move → List ℕ

@@ -1,15 +1,15 @@
--- Laws of the text of a program.
+-- MEANING: laws of the text of a program.
 use Rattle.std.specs.Prelude.{◌≡◌, ◌∷◌, ◌++◌, ℤ, pos, neg_ℤ, List, [], codes}
 use Rattle.sn_geom.specs.declared.units.Pt3.{Pt3}
 use Rattle.sn_outline.specs.Job.{Job}
 use Rattle.sn_outline.specs.declared.job.StepJob.{StepJob}
-use Rattle.stepmill.specs.declared.moves.Move.{Move}
-use Rattle.stepmill.specs.declared.moves.Move.TheVariants.{Rapid, Feed}
-use Rattle.stepmill.specs.Moves.{over}
-use Rattle.stepmill.specs.Good.{Means}
+use Rattle.sn_link.specs.declared.moves.Move.{Move}
+use Rattle.sn_link.specs.declared.moves.Move.TheVariants.{Rapid, Feed}
+use Rattle.sn_link.specs.Moves.{over}
+use Rattle.sn_geom.specs.Meaning.{Means}
 use Rattle.stepmill.specs.PlanActs.{program_acts, IsWritableProgram}
 use Rattle.stepmill.specs.Text.{program_text}
-use Rattle.stepmill.specs.Examples.{boxed, drill, at}
+use Rattle.sn_link.specs.Examples.{boxed, drill, at}
 
 abbrev pub over_origin : ℤ → Pt3
 over_origin z = over (at (pos 1000) (neg_ℤ (pos 500))) z

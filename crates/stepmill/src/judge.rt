@@ -1,53 +1,64 @@
 //! Judging the bytes of a part.
-ghost use Rattle.std.specs.Prelude.{◌≡◌, ◌⊎◌, IfOk, IfErr};
-ghost use Rattle.sn_plain.specs.Plain.{IsPlain};
-ghost use Rattle.sn_outline.specs.JobRule.{IsPitch};
-ghost use Rattle.stepmill.specs.hole.OneHole.{IsBuilt, IsSeen, hole_job};
-ghost use Rattle.stepmill.specs.Outcome.{IsSoundPart, IsRefusedForm, IsRefusedPart, SoundOrRefused};
+ghost use Rattle.std.specs.Prelude.{◌≡◌, ◌≤◌, ◌⊎◌, ℕ, IfOk, IfErr, OnOk, length};
+ghost use Rattle.sn_geom.specs.declared.units.Cell.{Cell};
+ghost use Rattle.sn_open.specs.Reach.{IsFirstUnreached, IsReachable};
+ghost use Rattle.sn_raster.specs.Grid.{FitsGrid};
+ghost use Rattle.sn_words.specs.Options.{Options};
+ghost use Rattle.stepmill.specs.Part.{HaveSoundModel, IsRefusedPart, IsSoundPart, SoundOrRefused};
 
-use crate::hole::conditions::is_built;
-use crate::hole::seen::is_seen;
+use crate::compiled::are_compiled;
+use crate::prepare::{grid_of, prepare};
 use crate::reading::LONGEST;
 use crate::refusal::Refusal;
-use sn_p21::{File, one_fault, one_file, read_file};
-use sn_plain::{Plain, one_plain, plain_of};
+use sn_model::{build, one_model};
+use sn_open::first_unreached;
+use sn_outline::Job;
+use sn_p21::{one_fault, one_file, read_file};
+use sn_refs::laws::one_verdict;
+use sn_refs::{Checked, check};
+use sn_words::Opts;
 use std::alloc::Global;
 
-/// The instance number of the hole in the text of a plain part.
-const HOLE: u32 = 8;
-
-/// The numbers of a part that is compiled at a pitch, or why it is not.
-pub fn judge(alloc: Global, bytes: &[u8], pitch: u32) -> Result<Plain, Refusal>
-    requires { IsPitch pitch }
-    ensures sound { IfOk result (λ part. IsSoundPart bytes.now pitch (hole_job part pitch)) }
-    ensures built { IfOk result (λ part. IsBuilt part pitch) }
-    ensures seen { IfOk result (λ part. IsSeen part pitch) }
-    ensures refused { IfErr result (λ refusal. (refusal ≡ Refusal.NoMemory) ⊎ IsRefusedPart bytes.now pitch refusal) }
+/// The job of a part that is compiled with the options, or why it is not compiled.
+pub fn judge(alloc: Global, bytes: &[u8], opts: &Opts) -> Result<Job, Refusal>
+    ensures sound { IfOk result (IsSoundPart bytes.now opts.now) }
+    ensures refused { IfErr result (λ refusal. (refusal ≡ Refusal.NoMemory) ⊎ IsRefusedPart bytes.now opts.now refusal) }
 {
     if bytes.len() > LONGEST {
         return Err(Refusal::TooLong);
     }
-    let file = read_file(alloc, bytes)?;
-    judge_file(alloc, &file, pitch)
+    let checked = sound_model(alloc, bytes)?;
+    let job = prepare(alloc, &checked, opts)?;
+    look_at_reach(alloc, &job)?;
+    if !are_compiled(&checked, opts, &job) {
+        return Err(Refusal::FormNotBuilt);
+    }
+    Ok(job)
 }
 
-fn judge_file(alloc: Global, file: &File, pitch: u32) -> Result<Plain, Refusal>
-    requires { IsPitch pitch }
-    ensures plain { IfOk result (IsPlain file.now) }
-    ensures built { IfOk result (λ part. IsBuilt part pitch) }
-    ensures seen { IfOk result (λ part. IsSeen part pitch) }
-    ensures refused { IfErr result (λ refusal. (refusal ≡ Refusal.NoMemory) ⊎ IsRefusedForm file.now pitch refusal) }
+/// The model of the text of a part, where it is sound.
+fn sound_model(alloc: Global, bytes: &[u8]) -> Result<Checked, Refusal>
+    requires { length bytes.now ≤ LONGEST }
+    ensures sound { IfOk result (HaveSoundModel bytes.now) }
+    ensures refused { IfErr result (λ refusal. (refusal ≡ Refusal.NoMemory) ⊎ ((o : Options) → IsRefusedPart bytes.now o refusal)) }
 {
-    let Some(part) = plain_of(alloc, file)? else {
-        return Err(Refusal::FormNotBuilt);
-    };
-    if !is_built(&part, pitch) {
-        return Err(Refusal::FormNotBuilt);
+    let file = read_file(alloc, bytes)?;
+    let model = build(alloc, &file)?;
+    Ok(check(alloc, model)?)
+}
+
+/// Whether the steps of a job reach each cell that has to be cut; the first that none reaches is told.
+fn look_at_reach(alloc: Global, job: &Job) -> Result<(), Refusal>
+    requires { FitsGrid job.now }
+    ensures reachable { OnOk result (IsReachable job.now) }
+    ensures refused { IfErr result (λ refusal. (refusal ≡ Refusal.NoMemory)
+        ⊎ ((feature : ℕ) × (cell : Cell) × (refusal ≡ Refusal.Uncovered feature cell) × IsFirstUnreached job.now feature cell)) }
+{
+    let grid = grid_of(job);
+    match first_unreached(alloc, job, &grid)? {
+        Some((feature, cell)) => Err(Refusal::Uncovered(feature, cell)),
+        None => Ok(()),
     }
-    if !is_seen(&part, pitch) {
-        return Err(Refusal::TooSmall(HOLE));
-    }
-    Ok(part)
 }
 
 /// A part that is compiled is not refused.
@@ -56,5 +67,6 @@ pub fn sound_or_refused()
 {
     one_file();
     one_fault();
-    one_plain();
+    one_model();
+    one_verdict();
 }

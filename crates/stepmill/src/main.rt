@@ -2,27 +2,29 @@
 #![tactic(auto)]
 
 mod command;
-mod hole;
+mod compiled;
 mod judge;
 mod laws;
-mod moves;
+mod message;
+mod numbers;
+mod prepare;
+mod program;
 mod reading;
 mod refusal;
 mod run;
 mod status;
 #[cfg(test)]
 mod tests;
-mod words;
 mod writer;
 
 pub use run::run;
 use sn_geom::Memory;
 use sn_io::{DiskFiles, OutSink};
+use sn_words::Words;
 pub use status::Status;
 use std::env;
 use std::io::{Stderr, Stdout};
 use std::process::ExitCode;
-pub use words::Words;
 
 fn main(rt: HostRuntime) -> ExitCode {
     let status = match words_of(&rt) {

@@ -1,15 +1,18 @@
 //! Why no program is written, and what is said of it.
-ghost use Rattle.std.specs.Prelude.{◌≡◌, ◌≢◌, ◌⊎◌, ◌++◌, decimal};
-ghost use Rattle.sn_io.specs.Sink.{Takes, TakesFront, Writes};
-ghost use Rattle.stepmill.specs.FaultText.{placed_text, lex_text, fault_text};
+ghost use Rattle.std.specs.Prelude.{◌≡◌, ◌≢◌, ◌⊎◌};
+ghost use Rattle.sn_io.specs.Sink.{Takes, TakesFront};
 ghost use Rattle.stepmill.specs.Outcome.{refusal_text, status_of};
 
+use crate::message::write_refusal;
 use crate::status::Status;
-use itoa::Buffer;
-use sn_geom::Memory;
-use sn_io::{Failed, Sink, WriteFault, write_all};
+use sn_flow::JobFault;
+use sn_geom::{Cell, Memory};
+use sn_io::{Failed, Sink, WriteFault};
 use sn_lex::LexFault;
+use sn_model::ModelFault;
 use sn_p21::P21Fault;
+use sn_refs::RefFault;
+use sn_words::WordFault;
 use std::alloc::AllocError;
 
 /// Why no program is written.
@@ -25,10 +28,16 @@ pub enum Refusal {
     TooLong,
     /// The part's text is no part text.
     Text(TextFault),
-    /// The part is of no form that is built.
+    /// The instances of the part have no model.
+    Model(ModelFault),
+    /// The model of the part is not sound.
+    Reference(RefFault),
+    /// The part gives no job.
+    Job(JobFault),
+    /// No step opens this cell of the feature with this instance number, which has to be cut.
+    Uncovered(u32, Cell),
+    /// A step is of a form that is not compiled yet.
     FormNotBuilt,
-    /// The grid sees nothing of the feature with this instance number.
-    TooSmall(u32),
 }
 
 /// Why a text is no part text, each with the offset at which it shows.
@@ -94,6 +103,62 @@ impl From<P21Fault> for Refusal {
     }
 }
 
+impl From<WordFault> for Refusal {
+    ghost use Rattle.std.specs.Prelude.{◌≡◌};
+    ghost use Rattle.stepmill.specs.FaultText.{refusal_of_words};
+
+    ghost from_gives = { λ fault refusal. refusal ≡ refusal_of_words fault };
+
+    fn from(fault: WordFault) -> Refusal {
+        match fault {
+            WordFault::At(place) => Refusal::Word(place),
+            WordFault::Memory => Refusal::NoMemory,
+        }
+    }
+}
+
+impl From<ModelFault> for Refusal {
+    ghost use Rattle.std.specs.Prelude.{◌≡◌};
+    ghost use Rattle.stepmill.specs.FaultText.{refusal_of_model};
+
+    ghost from_gives = { λ fault refusal. refusal ≡ refusal_of_model fault };
+
+    fn from(fault: ModelFault) -> Refusal {
+        match fault {
+            ModelFault::NoProject | ModelFault::TwoProjects(_) => Refusal::Model(fault),
+            ModelFault::Memory => Refusal::NoMemory,
+        }
+    }
+}
+
+impl From<RefFault> for Refusal {
+    ghost use Rattle.std.specs.Prelude.{◌≡◌};
+    ghost use Rattle.stepmill.specs.FaultText.{refusal_of_references};
+
+    ghost from_gives = { λ fault refusal. refusal ≡ refusal_of_references fault };
+
+    fn from(fault: RefFault) -> Refusal {
+        match fault {
+            RefFault::Memory => Refusal::NoMemory,
+            _ => Refusal::Reference(fault),
+        }
+    }
+}
+
+impl From<JobFault> for Refusal {
+    ghost use Rattle.std.specs.Prelude.{◌≡◌};
+    ghost use Rattle.stepmill.specs.FaultText.{refusal_of_job};
+
+    ghost from_gives = { λ fault refusal. refusal ≡ refusal_of_job fault };
+
+    fn from(fault: JobFault) -> Refusal {
+        match fault {
+            JobFault::Memory => Refusal::NoMemory,
+            _ => Refusal::Job(fault),
+        }
+    }
+}
+
 /// Writes the text of a refusal to the errors, and gives its status.
 pub fn refuse<E: Sink>(err: &mut E, refusal: Refusal) -> Status
     ensures either { (result ≡ status_of refusal) ⊎ (result ≡ Status.WriteFault) }
@@ -115,75 +180,12 @@ impl Refusal {
             Refusal::NotRead => Status::ReadFault,
             Refusal::NoMemory => Status::Memory,
             Refusal::TooLong => Status::TooLong,
-            Refusal::Text(_) | Refusal::FormNotBuilt | Refusal::TooSmall(_) => Status::PartRefused,
+            Refusal::Text(_)
+            | Refusal::Model(_)
+            | Refusal::Reference(_)
+            | Refusal::Job(_)
+            | Refusal::FormNotBuilt => Status::PartRefused,
+            Refusal::Uncovered(..) => Status::Uncovered,
         }
     }
-}
-
-fn write_refusal<E: Sink>(err: &mut E, refusal: Refusal) -> Result<(), WriteFault>
-    ensures { Writes result (E.state err.old) (E.state err.new) (refusal_text refusal) }
-{
-    match refusal {
-        Refusal::Word(place) => write_place(err, b"stepmill: word ", place),
-        Refusal::NotRead => write_all(err, b"stepmill: read fault\n"),
-        Refusal::NoMemory => write_all(err, b"stepmill: memory\n"),
-        Refusal::TooLong => write_all(err, b"stepmill: too long\n"),
-        Refusal::Text(fault) => write_fault(err, fault),
-        Refusal::FormNotBuilt => write_all(err, b"stepmill: part: form not built\n"),
-        Refusal::TooSmall(feature) => write_too_small(err, feature),
-    }
-}
-
-fn write_fault<E: Sink>(err: &mut E, fault: TextFault) -> Result<(), WriteFault>
-    ensures { Writes result (E.state err.old) (E.state err.new) (fault_text fault) }
-{
-    match fault {
-        TextFault::Lex(fault) => write_lex_fault(err, fault),
-        TextFault::Unexpected(at) => write_place(err, b"stepmill: part: unexpected at ", at),
-        TextFault::Twice(number, at) => write_twice(err, number, at),
-        TextFault::TooDeep(at) => write_place(err, b"stepmill: part: too deep at ", at),
-    }
-}
-
-fn write_lex_fault<E: Sink>(err: &mut E, fault: LexFault) -> Result<(), WriteFault>
-    ensures { Writes result (E.state err.old) (E.state err.new) (lex_text fault) }
-{
-    match fault {
-        LexFault::BadByte(at) => write_place(err, b"stepmill: part: bad byte at ", at),
-        LexFault::OpenString(at) => write_place(err, b"stepmill: part: open string at ", at),
-        LexFault::OpenComment(at) => write_place(err, b"stepmill: part: open comment at ", at),
-        LexFault::BadNumber(at) => write_place(err, b"stepmill: part: bad number at ", at),
-        LexFault::BadEnum(at) => write_place(err, b"stepmill: part: bad enumeration at ", at),
-    }
-}
-
-fn write_twice<E: Sink>(err: &mut E, number: u32, at: usize) -> Result<(), WriteFault>
-    ensures { Writes result (E.state err.old) (E.state err.new) (fault_text (TextFault.Twice number at)) }
-{
-    write_number(err, b"stepmill: part: #", number as usize)?;
-    write_place(err, b" twice at ", at)
-}
-
-fn write_too_small<E: Sink>(err: &mut E, feature: u32) -> Result<(), WriteFault>
-    ensures { Writes result (E.state err.old) (E.state err.new) (refusal_text (Refusal.TooSmall feature)) }
-{
-    write_number(err, b"stepmill: part: #", feature as usize)?;
-    write_all(err, b" too small for the grid\n")
-}
-
-/// Writes words, a place and the end of the line.
-fn write_place<E: Sink>(err: &mut E, words: &[u8], place: usize) -> Result<(), WriteFault>
-    ensures { Writes result (E.state err.old) (E.state err.new) (placed_text words.now place) }
-{
-    write_number(err, words, place)?;
-    write_all(err, b"\n")
-}
-
-/// Writes words and a number.
-fn write_number<E: Sink>(err: &mut E, words: &[u8], number: usize) -> Result<(), WriteFault>
-    ensures { Writes result (E.state err.old) (E.state err.new) (words.now ++ decimal number) }
-{
-    let mut buffer = Buffer::new();
-    write_all(err, words)?;
-    write_all(err, buffer.format(number).as_bytes())
 }

@@ -1,11 +1,8 @@
-//! Commands over files and sinks in memory.
+//! Commands over files and sinks in memory. tools/system.sh has more of them, over the built program.
 
-mod prefixes;
-
-use self::prefixes::FAULTS;
-use crate::reading::LONGEST;
-use crate::{Status, Words, run};
+use crate::{Status, run};
 use sn_io::{MemFiles, MemSink};
+use sn_words::Words;
 use std::test::Fail;
 
 /// The sample part: data/one.stp, the stored input of the program.
@@ -45,23 +42,6 @@ ENDSEC;
 END-ISO-10303-21;
 ";
 
-/// The front of a text, up to its instances.
-const OPENING: &str =
-    "ISO-10303-21;HEADER;FILE_DESCRIPTION();FILE_NAME();FILE_SCHEMA();ENDSEC;DATA;";
-
-/// Lines of the sample part, and the same in another layout, with parentheses around an instance and an integer for a real.
-const LOOSE: [(&str, &str); 3] = [
-    (
-        "#1=PROJECT('one',#2,(#3),$,$,$);",
-        "#01 = PROJECT ( 'one' , #2 , (#3) , $ , $ , $ ) ; /* the project */",
-    ),
-    (
-        "#6=BLOCK('raw',#11,20.,20.,10.);",
-        "#6=(BLOCK('raw',#11,20,+20.0,10.E0));",
-    ),
-    ("(8.,$);", "(8,$);"),
-];
-
 /// The command over the sample part, at a pitch of one millimetre.
 const COMPILE: &str = "compile one.stp --cell 1000";
 
@@ -76,6 +56,51 @@ S720 M3
 F300
 G0 Z20.000
 G0 X10.000 Y10.000
+G0 Z11.000
+G1 Z4.000
+G0 Z20.000
+M2
+%
+";
+
+/// Two more workingsteps for the sample part: one that drills its hole again, and one that drills another hole with another
+/// tool.
+const MORE_STEPS: &str = "#30=MACHINING_WORKINGSTEP('',#7,#31,#32,$);
+#31=ROUND_HOLE('',#3,(#32),#33,#14,#34,$,#16);
+#32=DRILLING($,$,'',$,$,#35,#18,$,$,$,$,$,$,$);
+#33=AXIS2_PLACEMENT_3D('',#36,$,$);
+#34=TOLERANCED_LENGTH_MEASURE(6.,$);
+#35=CUTTING_TOOL('',#37,(),80.,$,$);
+#36=CARTESIAN_POINT('',(4.,16.,10.));
+#37=ENDMILL(#38,4,.RIGHT.,.F.,$,$);
+#38=MILLING_TOOL_DIMENSION(6.,$,$,20.,0.,$,$);
+#39=MACHINING_WORKINGSTEP('',#7,#8,#9,$);
+ENDSEC;
+END";
+
+/// The program of the part with these steps: nothing is left for the second one.
+const THREE_STEPS: &str = "%
+G21 G90 G17 G94 G40 G61
+(T1 #17)
+(T2 #35)
+(WS #4)
+T1 M6
+G43 H1
+S720 M3
+F300
+G0 Z20.000
+G0 X10.000 Y10.000
+G0 Z11.000
+G1 Z4.000
+G0 Z20.000
+(WS #39)
+(WS #30)
+T2 M6
+G43 H2
+S720 M3
+F300
+G0 Z20.000
+G0 X4.000 Y16.000
 G0 Z11.000
 G1 Z4.000
 G0 Z20.000
@@ -117,138 +142,40 @@ fn ends(
     Ok((status, written, told))
 }
 
-#[test]
-fn commands_end_with_their_outcome(rt: HostRuntime) -> Result<(), Fail> {
-    let small = SAMPLE.replace(rt.alloc(), "(8.,$", "(3.,$")?;
-    let no_steps = SAMPLE.replace(rt.alloc(), "(#4)", "()")?;
-    let long = vec![in rt.alloc(); b' '; LONGEST + 1]?;
-    let mut deep = Vec::from_slice(rt.alloc(), OPENING.as_bytes())?;
-    deep.extend_from_slice(b"#1=A")?;
-    for _ in 0..65u32 {
-        deep.push(b'(')?;
+/// The command ends with this status, output and errors over the part.
+fn ends_with(
+    rt: &HostRuntime,
+    part: &[u8],
+    status: Status,
+    out: &str,
+    err: &str,
+) -> Result<(), Fail> {
+    let (ended, written, told) = ends(rt, COMPILE, part, None, None)?;
+    if ended != status {
+        return Err("another status".into());
     }
-    let again = format!(in rt.alloc(); "{OPENING}#1=A();#01=B();")?;
-    let mut loose = String::from_str(rt.alloc(), SAMPLE)?;
-    for (line, other) in LOOSE {
-        loose = loose.as_str().replace(rt.alloc(), line, other)?;
+    if written.as_slice() != out.as_bytes() {
+        return Err("another output".into());
     }
-    let rows = [
-        (COMPILE, SAMPLE.as_bytes(), Status::Done, PROGRAM, ""),
-        (
-            "compile one.stp --cell 01000",
-            SAMPLE.as_bytes(),
-            Status::Done,
-            PROGRAM,
-            "",
-        ),
-        (
-            COMPILE,
-            small.as_bytes(),
-            Status::PartRefused,
-            "",
-            "stepmill: part: #8 too small for the grid\n",
-        ),
-        (
-            COMPILE,
-            b"".as_slice(),
-            Status::PartRefused,
-            "",
-            "stepmill: part: unexpected at 0\n",
-        ),
-        (
-            COMPILE,
-            deep.as_slice(),
-            Status::PartRefused,
-            "",
-            "stepmill: part: too deep at 145\n",
-        ),
-        (
-            COMPILE,
-            again.as_bytes(),
-            Status::PartRefused,
-            "",
-            "stepmill: part: #1 twice at 84\n",
-        ),
-        (
-            COMPILE,
-            b"ISO-10303-21;HEADER;FILE_DESCRIPTION(('a".as_slice(),
-            Status::PartRefused,
-            "",
-            "stepmill: part: open string at 38\n",
-        ),
-        (COMPILE, loose.as_bytes(), Status::Done, PROGRAM, ""),
-        (
-            COMPILE,
-            no_steps.as_bytes(),
-            Status::PartRefused,
-            "",
-            "stepmill: part: form not built\n",
-        ),
-        (
-            COMPILE,
-            long.as_slice(),
-            Status::TooLong,
-            "",
-            "stepmill: too long\n",
-        ),
-        (
-            "compile one.stp --cell 19",
-            SAMPLE.as_bytes(),
-            Status::BadWords,
-            "",
-            "stepmill: word 4\n",
-        ),
-        (
-            "compile one.stp --cell 1000 x",
-            SAMPLE.as_bytes(),
-            Status::BadWords,
-            "",
-            "stepmill: word 5\n",
-        ),
-        (
-            "compile",
-            SAMPLE.as_bytes(),
-            Status::BadWords,
-            "",
-            "stepmill: word 2\n",
-        ),
-        (
-            "compile two.stp --cell 1000",
-            SAMPLE.as_bytes(),
-            Status::ReadFault,
-            "",
-            "stepmill: read fault\n",
-        ),
-    ];
-    for (line, text, status, out, err) in rows {
-        let (ended, written, told) = ends(&rt, line, text, None, None)?;
-        assert_eq!(rt; ended, status);
-        assert_eq!(rt; written.as_slice(), out.as_bytes());
-        assert_eq!(rt; told.as_slice(), err.as_bytes());
+    if told.as_slice() != err.as_bytes() {
+        return Err("another message".into());
     }
     Ok(())
 }
 
-/// The words of the first fault of a proper prefix of the sample part, and its offset.
-fn first_fault(length: usize) -> (&'static str, usize) {
-    for (least, greatest, words, at) in FAULTS {
-        if least <= length && length <= greatest {
-            return (words, at);
-        }
-    }
-    ("unexpected", length)
+#[test]
+fn parts_are_compiled(rt: HostRuntime) -> Result<(), Fail> {
+    ends_with(&rt, SAMPLE.as_bytes(), Status::Done, PROGRAM, "")?;
+    let longer = SAMPLE.replace(rt.alloc(), "(#4)", "(#4,#39,#30)")?;
+    let steps = longer.replace(rt.alloc(), "ENDSEC;\nEND", MORE_STEPS)?;
+    ends_with(&rt, steps.as_bytes(), Status::Done, THREE_STEPS, "")
 }
 
 #[test]
-fn prefixes_end_with_their_first_fault(rt: HostRuntime) -> Result<(), Fail> {
-    for length in 0..SAMPLE.len().saturating_sub(1) {
-        let (words, at) = first_fault(length);
-        let (ended, _, told) = ends(&rt, COMPILE, &SAMPLE.as_bytes()[..length], None, None)?;
-        let expected = format!(in rt.alloc(); "stepmill: part: {words} at {at}\n")?;
-        assert_eq!(rt; ended, Status::PartRefused);
-        assert_eq!(rt; told.as_slice(), expected.as_bytes());
-    }
-    Ok(())
+fn parts_are_refused(rt: HostRuntime) -> Result<(), Fail> {
+    let thin = SAMPLE.replace(rt.alloc(), "DIMENSION(8.", "DIMENSION(1.")?;
+    let uncovered = "stepmill: uncovered #8 i 10 j 9 z 4000\n";
+    ends_with(&rt, thin.as_bytes(), Status::Uncovered, "", uncovered)
 }
 
 #[test]

@@ -1,13 +1,13 @@
 //! Writing moves.
 ghost use Rattle.std.specs.Prelude.{◌≡◌, OnOk};
 ghost use Rattle.sn_io.specs.Sink.{Writes};
-ghost use Rattle.sn_gwrite.specs.Kept.{IsBegun, IsTurning, HasTool, moved};
-ghost use Rattle.stepmill.specs.Moves.{AreStraight, MayMove, end_of};
+ghost use Rattle.sn_gwrite.specs.Kept.{HasTool, IsBegun, IsTurning, moved};
+ghost use Rattle.sn_link.specs.Moves.{AreStraight, MayMove, end_of, tip_after_moves};
 ghost use Rattle.stepmill.specs.Text.{move_text, moves_text};
 
-use crate::moves::Move;
 use sn_gwrite::Emitter;
 use sn_io::{Sink, WriteFault};
+use sn_link::Move;
 
 /// Writes moves that are straight from the tip on.
 pub fn write_moves<S: Sink>(
@@ -21,6 +21,8 @@ pub fn write_moves<S: Sink>(
     requires straight { AreStraight emitter.old.tip moves.now }
     ensures writes { Writes result (S.state sink.old) (S.state sink.new) (moves_text emitter.old.tip moves.now) }
     ensures begun { OnOk result (IsBegun emitter.new) }
+    ensures tool { OnOk result (emitter.new.tool ≡ emitter.old.tool) }
+    ensures tip { OnOk result (emitter.new.tip ≡ tip_after_moves emitter.old.tip moves.now) }
 {
     for to in moves {
         write_move(emitter, sink, *to)?;

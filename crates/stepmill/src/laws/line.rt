@@ -1,8 +1,7 @@
 //! Laws of lines.
-ghost use Rattle.stepmill.specs.LineLaws.{LinesAreSplit, WordsHaveLimits};
+ghost use Rattle.stepmill.specs.LineLaws.{WordsHaveLimits};
 
 /// Laws of lines.
 pub fn lines()
-    ensures split { LinesAreSplit }
     ensures limits { WordsHaveLimits }
 {}

@@ -1,20 +1,23 @@
 //! Laws of what a command ends with.
-ghost use Rattle.stepmill.specs.OutcomeLaws.{BadWordsAreNoCommand, OneDeparture, OneJob, OneOutcome, OneRefusal};
+ghost use Rattle.stepmill.specs.OutcomeLaws.{BadWordsAreNoCommand, OneJob, OneOutcome, OneRefusal};
 
 use crate::judge::sound_or_refused;
-use crate::laws::plan::plans;
+use sn_link::laws::plans;
+use sn_model::one_model;
 use sn_p21::{one_fault, one_file};
-use sn_plain::one_plain;
+use sn_refs::laws::one_verdict;
+use sn_words::laws::one_meaning;
 
-/// Laws of the words and of refusals.
+/// Laws of refusals.
 pub fn refusals()
-    ensures one_departure { OneDeparture }
     ensures one_refusal { OneRefusal }
     ensures bad_words { BadWordsAreNoCommand }
 {
     one_file();
     one_fault();
-    one_plain();
+    one_model();
+    one_verdict();
+    one_meaning();
 }
 
 /// Laws of the job and of the outcome.
@@ -23,7 +26,10 @@ pub fn outcomes()
     ensures one_outcome { OneOutcome }
 {
     one_file();
-    one_plain();
+    one_fault();
+    one_model();
+    one_verdict();
+    one_meaning();
     sound_or_refused();
     plans();
     refusals();

@@ -1,24 +1,15 @@
-use Rattle.std.proofs.Common.{refl, arith}
-use Rattle.stepmill.proofs.CommandLemmas.{at_start, at_file, at_option, at_pitch, at_end}
+use Rattle.std.proofs.Common.{◌≡◌, refl, subst}
+use Rattle.stepmill.specs.Command.{IsTurnedAway}
+use Rattle.stepmill.proofs.CommandLemmas.{asked, departed, turned_away}
 use Rattle.stepmill.proofs.command.read_command.Goals as goal
 
-pub returns-then-not-stands-clause-err : goal.returns-then-not-stands-clause-err
-returns-then-not-stands-clause-err c = at_start _ (λ e. let h = c.if-not-stands.ensures.1 e in cc)
+pub returns-then-not-begins-clause-at : goal.returns-then-not-begins-clause-at
+returns-then-not-begins-clause-at c = λ place is.
+    let same : 1 ≡ place = cc in
+    subst (IsTurnedAway c.args.words.now) same (turned_away c.args.words.now (λ e. let h = c.if-not-begins.ensures.1 e in cc))
 
-pub returns-in_default-clause-err : goal.returns-in_default-clause-err
-returns-in_default-clause-err c = at_file _ (c.if-not-stands.ensures.0 refl) c.in_default.ensures.none
+pub returns-clause-ok : goal.returns-clause-ok
+returns-clause-ok c = asked c.args.words.now c.values.result (c.if-not-begins.ensures.0 refl) c.values.ensures.ok
 
-pub returns-then-not-stands-2-clause-err : goal.returns-then-not-stands-2-clause-err
-returns-then-not-stands-2-clause-err c =
-    at_option _ c.in-Some.part.now (c.if-not-stands.ensures.0 refl) c.in-Some.ensures.some.0 c.in-Some.ensures.some.1 (λ e. let h = c.if-not-stands-2.ensures.1 e in cc)
-
-pub returns-in_default-pitch_word-clause-err : goal.returns-in_default-pitch_word-clause-err
-returns-in_default-pitch_word-clause-err c =
-    at_pitch _ c.in-Some.part.now (c.if-not-stands.ensures.0 refl) c.in-Some.ensures.some.0 (c.if-not-stands-2.ensures.0 refl)
-    c.in-Some.ensures.some.1 c.in_default-pitch_word.ensures.none
-
-pub returns-then-len-gt4-clause-err : goal.returns-then-len-gt4-clause-err
-returns-then-len-gt4-clause-err c =
-    let cell = c.in-Some-pitch_word.ensures.some in
-    at_end _ c.in-Some.part.now cell.0 _ (c.if-not-stands.ensures.0 refl) c.in-Some.ensures.some.0 (c.if-not-stands-2.ensures.0 refl)
-    cell.1 c.in-Some.ensures.some.1 cell.2 (omega arith)
+pub returns-clause-at : goal.returns-clause-at
+returns-clause-at c = λ place is. departed c.args.words.now place (c.if-not-begins.ensures.0 refl) (c.values.ensures.at place is)

@@ -1,11 +1,39 @@
-use Rattle.std.proofs.Common.{arith}
-use Rattle.stepmill.proofs.OutcomeLemmas.{sound_part, refused_part_text}
+use Rattle.std.proofs.Common.{inr, refl}
+use Rattle.std.proofs.lemmas.Result.{err_from_is_err_and}
+use Rattle.stepmill.proofs.JudgeLemmas.{of_job, of_reach, with_these}
 use Rattle.stepmill.proofs.judge.judge.Goals as goal
 
-pub returns-clause-sound : goal.returns-clause-sound
-returns-clause-sound c =
-    sound_part c.args.bytes.now c.args.pitch c.in_ok-file.file c.judge_file.result (omega arith) c.in_ok-file.ensures.found c.judge_file.ensures.plain c.judge_file.ensures.built c.judge_file.ensures.seen
+pub returns-in_err-checked-clause-refused : goal.returns-in_err-checked-clause-refused
+returns-in_err-checked-clause-refused c =
+    let p = err_from_is_err_and c.from_residual.result c.from_residual.ensures.1 in
+    rw (p.1, p.2) (with_these c.args.bytes.now c.args.opts.now c.in_err-checked.field-0.0 c.in_err-checked.ensures.refused)
 
-pub returns-clause-refused : goal.returns-clause-refused
-returns-clause-refused c =
-    refused_part_text c.args.bytes.now c.args.pitch c.in_ok-file.file c.judge_file.result (omega arith) c.in_ok-file.ensures.found c.judge_file.ensures.refused
+pub returns-in_err-job-clause-refused : goal.returns-in_err-job-clause-refused
+returns-in_err-job-clause-refused c =
+    let p = err_from_is_err_and c.from_residual-in_err-job.result c.from_residual-in_err-job.ensures.1 in
+    rw (p.1, p.2)
+    (of_job c.args.bytes.now c.args.opts.now c.in_ok-checked.checked c.in_err-job.field-0.0 c.in_ok-checked.ensures.sound c.in_err-job.ensures.refused)
+
+pub returns-in_err-look_at_reach-clause-refused : goal.returns-in_err-look_at_reach-clause-refused
+returns-in_err-look_at_reach-clause-refused c =
+    let p = err_from_is_err_and c.from_residual-in_err-look_at_reach.result c.from_residual-in_err-look_at_reach.ensures.1 in
+    rw (p.1, p.2)
+    (of_reach c.args.bytes.now c.args.opts.now c.in_ok-checked.checked c.in_ok-job.job c.in_err-look_at_reach.field-0.0
+    (record { model = c.in_ok-checked.ensures.sound; prepared = c.in_ok-job.ensures.prepared }) c.in_err-look_at_reach.ensures.refused)
+
+pub returns-then-not-are_compiled-clause-refused : goal.returns-then-not-are_compiled-clause-refused
+returns-then-not-are_compiled-clause-refused c = inr (
+  c.in_ok-checked.checked,
+  c.in_ok-job.job,
+  record { model = c.in_ok-checked.ensures.sound; prepared = c.in_ok-job.ensures.prepared },
+  c.in_ok-look_at_reach.ensures.reachable,
+  (λ flat. let h = c.if-not-are_compiled.ensures.1 flat in cc),
+)
+
+pub returns-clause-sound : goal.returns-clause-sound
+returns-clause-sound c = record {
+  model = c.in_ok-checked.checked;
+  job_is = record { model = c.in_ok-checked.ensures.sound; prepared = c.in_ok-job.ensures.prepared };
+  reachable = c.in_ok-look_at_reach.ensures.reachable;
+  compiled = c.if-not-are_compiled.ensures.0 refl;
+}

@@ -1,40 +1,26 @@
 use Rattle.std.proofs.Common.{[], refl, sym, subst, inl, inr}
 use Rattle.sn_io.proofs.SinkLemmas.{takes-nothing}
-use Rattle.stepmill.specs.hole.OneHole.{hole_job, hole_plan}
 use Rattle.stepmill.specs.Outcome.{IsOfDevices, refusal_text}
-use Rattle.stepmill.specs.Outcome.IsOutcome.{compiled, turned_down}
+use Rattle.stepmill.specs.Outcome.IsOutcome.{turned_down}
 use Rattle.stepmill.specs.Outcome.Stops.{at_message, at_program}
-use Rattle.stepmill.specs.Text.{program_text}
-use Rattle.stepmill.proofs.hole.GoodLemmas.{hole_is_good}
-use Rattle.stepmill.proofs.OutcomeLemmas.{refusal_or_device, job_not_refused, prepared_job}
+use Rattle.stepmill.proofs.OutcomeLemmas.{refusal_or_device, job_not_refused, ends_compiled}
 use Rattle.stepmill.proofs.run.run.Goals as goal
 
 pub returns-in-Ok-clause-outcome : goal.returns-in-Ok-clause-outcome
 returns-in-Ok-clause-outcome g c = λ tells devices.
-    let job = hole_job c.in-Ok.prepared.part c.in-Ok.prepared.pitch in
-    let plan = hole_plan c.in-Ok.prepared.part c.in-Ok.prepared.pitch in
-    let known = c.in-Ok.ensures.prepared in
     let written = c.write.ensures.done (λ e. devices (inr (inl e))) in
-    record {
-      text = program_text job plan;
-      message = [];
-      outcome = compiled job plan (prepared_job _ _ job plan tells known) known.planned written.0 refl refl;
-      written = written.1;
-      told = takes-nothing _;
-    }
+    ends_compiled _ _ _ _ _ _ _ _ tells c.in-Ok.ensures.prepared written.0 written.1
 
 pub returns-in-Ok-clause-good : goal.returns-in-Ok-clause-good
 returns-in-Ok-clause-good g c = λ done.
-    let part = c.in-Ok.prepared.part in
-    let pitch = c.in-Ok.prepared.pitch in
     let written = c.write.ensures.done (λ stopped. cc (done, stopped)) in
     record {
-      job = hole_job part pitch;
-      plan = hole_plan part pitch;
+      job = _;
+      plan = _;
       prepared = c.in-Ok.ensures.prepared;
       written = written.1;
       untouched = refl;
-      good = hole_is_good part pitch c.in-Ok.ensures.built;
+      good = c.in-Ok.ensures.good;
     }
 
 pub returns-in-Ok-clause-stopped : goal.returns-in-Ok-clause-stopped
@@ -65,6 +51,6 @@ returns-in-Err-clause-completes g c = λ tells job asked.
     let state = g.F.Files.state in
     let before = state c.args.files.now in
     elim (refusal_or_device c.args.words.now before (state c.prepare.new.files) c.in-Err.refusal tells c.in-Err.ensures.explains) [
-      | inl why ↦ absurd (job_not_refused c.sound_or_refused.ensures c.args.words.now before.given job c.in-Err.refusal asked why)
+      | inl why ↦ absurd (job_not_refused c.one_meaning.ensures c.sound_or_refused.ensures c.args.words.now before.given job c.in-Err.refusal asked why)
       | inr device ↦ elim c.refuse.ensures.either [ inl same ↦ inr (subst IsOfDevices (sym same) device) | inr stopped ↦ inr (inr (inl stopped)) ]
     ]

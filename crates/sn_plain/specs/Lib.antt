@@ -1,3 +1,0 @@
-pub mod NumberText
-pub mod Plain
-pub mod Quantity

@@ -1,3 +1,0 @@
-pub mod OneHole
-pub mod OneHoleLaws
-pub mod Seen

@@ -1,0 +1,9 @@
+//! Laws of the commands that are carried out.
+ghost use Rattle.stepmill.specs.CommandLaws.{CompileGoesByTheGrammar, OthersAreTurnedAway, OnePlace};
+
+/// Laws of the commands that are carried out, and of those that are turned away.
+pub fn commands()
+    ensures grammar { CompileGoesByTheGrammar }
+    ensures others { OthersAreTurnedAway }
+    ensures one_place { OnePlace }
+{}
