@@ -1,11 +1,9 @@
 #!/usr/bin/env bash
-# Runs the newest cases that lie beside the repository against the built program. It is skipped where they are missing.
-cd "$(dirname "$0")/.." || exit 1
-runner=../shared/check_cases
-cases=$(ls ../shared/cases/*.jsonl 2> /dev/null | tail -n 1)
-program=crates/stepmill/out/stepmill
-if [ ! -x "$runner" ] || [ ! -f "$cases" ] || [ ! -x "$program" ]; then
-  echo "skipped: no cases or no built program" >&2
+# Runs cases that lie beside the repository against the built program: tools/cases.sh RUNNER CASES, where RUNNER runs a file of
+# cases on a program. It is skipped where one of them is missing.
+program=$(dirname "$0")/../crates/stepmill/out/stepmill
+if [ ! -x "${1:-}" ] || [ ! -f "${2:-}" ] || [ ! -x "$program" ]; then
+  echo "skipped: no runner, no cases or no built program" >&2
   exit 0
 fi
-"$runner" "$cases" "$program"
+"$1" "$2" "$program"

@@ -1,5 +1,5 @@
 #!/usr/bin/env python3
-"""Prints the table crates/stepmill/src/tests/prefixes.rt: the first fault of each proper prefix of the sample part.
+"""Prints the first fault of each proper prefix of the sample part: its length, the words of the fault, and its offset.
 
 The fault is computed by a plain program over the definition: the fewest first tokens that begin no part text, where
 whether tokens begin one is decided by following all derivations of the grammar side by side. Run at the top of the
@@ -100,31 +100,12 @@ def fault(text):
     return None if () in stacks else ('unexpected', len(text))
 
 
-def rows(text):
-    """The lengths from first to last whose prefixes have this fault, but for those that end too early."""
-    out = []
-    for length in range(len(text) - 1):
-        words, at = fault(text[:length])
-        if (words, at) == ('unexpected', length):
-            continue
-        if out and out[-1][1:] == [length - 1, words, at]:
-            out[-1][1] = length
-        else:
-            out.append([length, length, words, at])
-    return out
-
-
 def main():
     name = sys.argv[1] if len(sys.argv) > 1 else 'crates/stepmill/data/one.stp'
-    table = rows(open(name, 'rb').read().decode('latin-1'))
-    print('//! The first faults of the proper prefixes of the sample part, as tools/prefix_faults.py computes them.')
-    print()
-    print('/// The least and the greatest length of prefixes with one fault, the words of the fault, and its offset. Prefixes of')
-    print('/// all other lengths end too early.')
-    print('pub const FAULTS: [(usize, usize, &str, usize); %d] = [' % len(table))
-    for row in table:
-        print('    (%d, %d, "%s", %s),' % tuple(row))
-    print('];')
+    text = open(name, 'rb').read().decode('latin-1')
+    for length in range(len(text) - 1):
+        words, at = fault(text[:length])
+        print('%d %s at %d' % (length, words, at))
 
 
 main()

@@ -36,6 +36,7 @@ has_output() {
   case $1 in
     program) cmp -s "$sample_text" "$folder/out" ;;
     nothing) [ ! -s "$folder/out" ] ;;
+    @*) cmp -s "${1#@}" "$folder/out" ;;
     *) grep -qxF -- "$1" "$folder/out" ;;
   esac
 }
@@ -50,7 +51,7 @@ has_errors() {
 }
 
 # wants NAME STATUS OUTPUT ERRORS: compares what the last run did. OUTPUT is `program`, the text of the sample part's
-# program, or `nothing`, or a line that the output has.
+# program, or `nothing`, or @FILE, the text of a file, or a line that the output has.
 wants() {
   if [ "$status" -eq "$2" ] && has_output "$3" && has_errors "$4"; then
     passed=$((passed + 1))
@@ -82,9 +83,12 @@ check_statuses() {
   tr 7 8 < "$sample" > "$folder/twice.stp"
   run compile "$folder/twice.stp" --cell 1000
   wants 'a number given twice' 1 nothing 'stepmill: part: #8 twice at 417'
-  sed 's/ENDMILL/TWIST_DRILL/' "$sample" > "$folder/form.stp"
+  sed 's/FLAT_HOLE_BOTTOM/THROUGH_BOTTOM_CONDITION/' "$sample" > "$folder/form.stp"
   run compile "$folder/form.stp" --cell 1000
   wants 'another form' 1 nothing 'stepmill: part: form not built'
+  sed 's/DIMENSION(8\./DIMENSION(1./' "$sample" > "$folder/thin.stp"
+  run compile "$folder/thin.stp" --cell 1000
+  wants 'a tool that does not reach all' 7 nothing 'stepmill: uncovered #8 i 10 j 9 z 4000'
   run compile "$sample" --cell 2000
   wants 'a coarse grid' 1 nothing 'stepmill: part: #8 too small for the grid'
   run
@@ -105,7 +109,7 @@ compile_changed() {
 
 # The limits of numbers and of the grid: the last value that is accepted, and the next one.
 check_limits() {
-  local form='stepmill: part: form not built' small='stepmill: part: #8 too small for the grid'
+  local part='stepmill: part:' range='is out of range' small='stepmill: part: #8 too small for the grid'
   local hole='s/MEASURE(8\./MEASURE(' tool='s/DIMENSION(8\./DIMENSION(' security='s/(0\.,0\.,20\.)/(0.,0.,'
   local raw='s/20\.,20\.,10\./' top='s/(10\.,10\.,10\.)/(' depth='s/-6\./'
   run compile "$sample" --cell 20
@@ -115,45 +119,114 @@ check_limits() {
   compile_changed 1000 's/0\.005/1.666666667/'
   wants 'the greatest feed' 0 'F100000' ''
   compile_changed 1000 's/0\.005/1.66668/'
-  wants 'a greater feed' 1 nothing "$form"
+  wants 'a greater feed' 1 nothing "$part #18 parameter 1 $range"
   compile_changed 1000 's/0\.005/0.00001/'
   wants 'the least feed' 0 'F1' ''
   compile_changed 1000 's/0\.005/0.000008/'
-  wants 'no feed' 1 nothing "$form"
+  wants 'no feed' 1 nothing "$part #18 parameter 1 $range"
   compile_changed 1000 's/-12\./-1666.66667/'
   wants 'the greatest speed' 0 'S100000 M3' ''
   compile_changed 1000 's/-12\./1666.68/'
-  wants 'a greater speed' 1 nothing "$form"
+  wants 'a greater speed' 1 nothing "$part #18 parameter 4 $range"
   compile_changed 1000 "${hole}200./" "${tool}200./"
   wants 'the greatest tool' 0 'G1 Z4.000' ''
   compile_changed 1000 "${hole}200.001/" "${tool}200.001/"
-  wants 'a greater tool' 1 nothing "$form"
+  wants 'a greater tool' 1 nothing "$part #25 parameter 1 $range"
   compile_changed 20 "${hole}0.01/" "${tool}0.01/"
   wants 'the least tool' 1 nothing "$small"
   compile_changed 20 "${hole}0.009/" "${tool}0.009/"
-  wants 'a lesser tool' 1 nothing "$form"
+  wants 'a lesser tool' 1 nothing "$part #25 parameter 1 $range"
   compile_changed 1000 "${security}2000.)/"
   wants 'the greatest height' 0 'G0 Z2000.000' ''
   compile_changed 1000 "${security}2000.001)/"
-  wants 'a greater height' 1 nothing "$form"
+  wants 'a greater height' 1 nothing "$part #20 parameter 2 $range"
   compile_changed 1000 "${top}-2000.,10.,10.)/"
   wants 'the least coordinate' 1 nothing "$small"
   compile_changed 1000 "${top}-2000.001,10.,10.)/"
-  wants 'a lesser coordinate' 1 nothing "$form"
+  wants 'a lesser coordinate' 1 nothing "$part #21 parameter 2 $range"
   compile_changed 1000 "${raw}20.,20.,2000./" "${security}2000.)/" "${top}10.,10.,2000.)/" "${depth}-80./"
   wants 'the deepest hole' 0 'G1 Z1920.000' ''
   compile_changed 1000 "${raw}20.,20.,2000./" "${security}2000.)/" "${top}10.,10.,2000.)/" "${depth}-80.001/"
-  wants 'a deeper hole' 1 nothing "$form"
+  wants 'a deeper hole' 1 nothing "$part #4 has a short tool"
   compile_changed 2000 "${hole}16./" "${tool}16./" "${raw}1993.999,20.,10./"
   wants 'a grid up to the greatest coordinate' 0 'G1 Z4.000' ''
   compile_changed 2000 "${hole}16./" "${tool}16./" "${raw}1994.,20.,10./"
-  wants 'a grid beyond it' 1 nothing "$form"
+  wants 'a grid beyond it' 1 nothing "$part grid too big"
   compile_changed 1000 "${raw}1991.,1991.,10./"
   wants 'the biggest grid' 0 program ''
   compile_changed 1000 "${raw}1992.,1991.,10./"
-  wants 'a bigger grid' 1 nothing "$form"
+  wants 'a bigger grid' 1 nothing "$part grid too big"
   compile_changed 1000 "${security}11.001)/"
   wants 'a rapid down' 0 'G0 Z11.000' ''
+}
+
+# compile_text TEXT: a part of this text.
+compile_text() {
+  printf '%s' "$1" > "$folder/text.stp"
+  run compile "$folder/text.stp" --cell 1000
+}
+
+# Parts of other texts: their layout, their first fault, what their instances lack.
+check_parts() {
+  local front='ISO-10303-21;HEADER;FILE_DESCRIPTION();FILE_NAME();FILE_SCHEMA();ENDSEC;DATA;' back='ENDSEC;END-ISO-10303-21;'
+  local deep
+  compile_changed 1000 's/#1=PROJECT(.one.,/#01 = PROJECT ( '"'one'"' , \/* the project *\/ /' \
+    's/#6=BLOCK(.raw.,#11,20\.,20\.,10\.)/#6=(BLOCK('"'raw'"',#11,20,+20.0,10.E0))/' 's/(8\.,\$);/(8,$);/'
+  wants 'another layout' 0 program ''
+  compile_changed 1000 's/(#4)/()/'
+  printf '%%\nG21 G90 G17 G94 G40 G61\nM2\n%%\n' > "$folder/empty.ngc"
+  wants 'no steps' 0 "@$folder/empty.ngc" ''
+  compile_changed 1000 's/(#4)/(#4,#4)/'
+  sed '/^M2/i (WS #4)' "$sample_text" > "$folder/again.ngc"
+  wants 'a step twice: nothing is left for the second time' 0 "@$folder/again.ngc" ''
+  compile_text "${front}${back}"
+  wants 'no project' 1 nothing 'stepmill: part: no project'
+  compile_text "${front}#1=A();#01=B();"
+  wants 'a number twice' 1 nothing 'stepmill: part: #1 twice at 84'
+  deep=$(head -c 65 /dev/zero | tr '\0' '(')
+  compile_text "${front}#1=A$deep"
+  wants 'a list too deep' 1 nothing 'stepmill: part: too deep at 145'
+  compile_text "ISO-10303-21;HEADER;FILE_DESCRIPTION(('a"
+  wants 'an open string' 1 nothing 'stepmill: part: open string at 38'
+  compile_changed 1000 's/^#25=/#26=/'
+  wants 'a dangling reference' 1 nothing 'stepmill: part: #23 parameter 1 names nothing'
+  compile_changed 1000 's/#7=PLANE(.security.,#12)/#7=PLANE('"'security'"',#19)/'
+  wants 'a reference of a wrong kind' 1 nothing 'stepmill: part: #7 parameter 2 names #19 of a wrong kind'
+  compile_changed 1000 's/#16=FLAT_HOLE_BOTTOM()/#16=CARTESIAN_POINT('"''"',(0.,0.))/'
+  wants 'a parameter of a wrong kind' 1 nothing 'stepmill: part: #8 parameter 8 names #16 of a wrong kind'
+  compile_changed 1000 's/-6\./6./'
+  wants 'a floor above its top' 1 nothing 'stepmill: part: #8 has its floor above its top'
+}
+
+# A pocket of 30 by 20 mm at (20, 15), 5 mm deep, cleared by a tool of 7 mm in one layer: of the rows of free centres from Y8
+# to Y22 each third one and the last, to and fro from X8 to X32.
+check_pocket() {
+  local y
+  compile_changed 1000 's/^#8=.*/#8=CLOSED_POCKET('"''"',#3,(#9),#13,#14,(),$,#16,$,$,#15);/' \
+    's/^#9=.*/#9=BOTTOM_AND_SIDE_ROUGH_MILLING($,$,'"''"',$,$,#17,#18,$,$,$,$,$,$,$,$,$);/' \
+    's/^#15=.*/#15=RECTANGULAR_CLOSED_PROFILE($,#26,#27);#26=TOLERANCED_LENGTH_MEASURE(30.,$);#27=TOLERANCED_LENGTH_MEASURE(20.,$);/' \
+    's/FLAT_HOLE/PLANAR_POCKET/;s/BOTTOM();/BOTTOM_CONDITION();/' 's/20\.,20\.,10\./40.,30.,10./' 's/(10\.,10\.,10\.)/(20.,15.,10.)/' \
+    's/-6\./-5./' 's/DIMENSION(8\./DIMENSION(7./'
+  {
+    head -n 9 "$sample_text"
+    printf 'G0 X8.000 Y8.000\nG0 Z11.000\nG1 Z5.000\n'
+    for y in 8:32 11:8 14:32 17:8 20:32 22:8; do
+      [ "$y" = 8:32 ] || printf 'G1 X%d.000 Y%d.000\n' $((40 - ${y#*:})) "${y%:*}"
+      printf 'G1 X%d.000 Y%d.000\n' "${y#*:}" "${y%:*}"
+    done
+    printf 'G0 Z20.000\nM2\n%%\n'
+  } > "$folder/pocket.ngc"
+  wants 'a pocket' 0 "@$folder/pocket.ngc" ''
+}
+
+# Each front of the sample part has its first fault, as tools/prefix_faults.py computes it by a plain program.
+check_fronts() {
+  local length fault
+  while read -r length fault; do
+    head -c "$length" "$sample" > "$folder/front.stp"
+    run compile "$folder/front.stp" --cell 1000
+    wants "the first $length bytes" 1 nothing "stepmill: part: $fault"
+  done <<< "$faults"
 }
 
 # Words are taken as they are given: none is trimmed.
@@ -177,6 +250,26 @@ check_words() {
   done
   run compile "$sample" --cell 1000 ''
   wants 'a word too many' 2 nothing 'stepmill: word 5'
+  for word in verify report make trial; do
+    run "$word" "$sample" --cell 1000
+    wants "the command $word, which is not built yet" 2 nothing 'stepmill: word 1'
+  done
+  run compile "$sample"
+  wants 'no options' 0 program ''
+  run compile "$sample" A=1 --raw 0,0,0,20,20,10 b_2=-0.5 --cell 1000
+  wants 'options in another order' 0 program ''
+  run compile "$sample" --raw -1,-1,-1,21,21,12.5
+  wants 'a raw box that is given' 0 'G0 Z13.500' ''
+  run compile "$sample" --raw 0,0,0,20,20,20.001
+  wants 'a raw box over the security plane' 1 nothing 'stepmill: part: security plane below the raw top'
+  for word in '0,0,0,20,20' '0,0,0,20,0,10' ' 0,0,0,20,20,10' ''; do
+    run compile "$sample" --raw "$word"
+    wants "the raw box '$word'" 2 nothing 'stepmill: word 4'
+  done
+  for word in A=2 ' A=2' A= =2 --raw=1; do
+    run compile "$sample" A=1 "$word"
+    wants "the word '$word' behind A=1" 2 nothing 'stepmill: word 4'
+  done
   run compile "$sample" --cell 01000
   wants 'a pitch with a leading zero' 0 program ''
   run compile $'\xff' --cell 1000
@@ -380,6 +473,7 @@ check_memory() {
 }
 
 [ $# -gt 0 ] || set -- crates/stepmill/out/stepmill
+faults=$(python3 tools/prefix_faults.py "$sample") || fail 'tools/prefix_faults.py'
 for program in "$@"; do
   program=$(realpath "$program")
   if [ ! -f "$program" ] || [ ! -x "$program" ]; then
@@ -388,6 +482,9 @@ for program in "$@"; do
   fi
   check_statuses
   check_limits
+  check_parts
+  check_pocket
+  check_fronts
   check_words
   check_names
   check_chunks
