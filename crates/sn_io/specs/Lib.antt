@@ -1,5 +1,7 @@
 pub mod Count
 pub mod CountLaws
+pub mod CountSink
+pub mod CountSinkLaws
 pub mod DiskFiles
 pub mod Files
 pub mod FilesLaws

@@ -1,10 +1,17 @@
 //! Laws of the definitions. Each function's contract states laws, and the function does nothing.
 ghost use Rattle.sn_io.specs.CountLaws.{RisesIsMore};
+ghost use Rattle.sn_io.specs.CountSinkLaws.{CountingNeverStops, CountingAddsTheLength};
 ghost use Rattle.sn_io.specs.FilesLaws.{OpeningsGiveInTurn};
 
 /// Laws of counts.
 pub fn counts()
     ensures rises { RisesIsMore }
+{}
+
+/// Laws of a sink that counts.
+pub fn counting()
+    ensures never_stops { CountingNeverStops }
+    ensures adds_the_length { CountingAddsTheLength }
 {}
 
 /// Laws of files.

@@ -5,6 +5,7 @@
 #![tactic(auto)]
 
 mod calls;
+mod count_sink;
 mod disk_files;
 mod files;
 pub mod laws;
@@ -15,6 +16,7 @@ mod sink;
 #[cfg(test)]
 mod tests;
 
+pub use count_sink::CountSink;
 pub use disk_files::DiskFiles;
 pub use files::{Failed, Files};
 pub use mem_files::MemFiles;

@@ -1,5 +1,7 @@
 //! What no clause says: that calls succeed, and what the machine's files and outputs do.
-use crate::{DiskFiles, Failed, Files, MemFiles, MemSink, OutSink, Sink, WriteFault, write_all};
+use crate::{
+    CountSink, DiskFiles, Failed, Files, MemFiles, MemSink, OutSink, Sink, WriteFault, write_all,
+};
 use std::io::Cursor;
 use std::test::Fail;
 use std::{env, fs, process};
@@ -69,6 +71,17 @@ fn listed_writes_fail(rt: HostRuntime) -> Result<(), Fail> {
     assert_eq!(rt; write_all(&mut sink, b"ab"), Ok(()));
     assert_eq!(rt; write_all(&mut sink, b"cd"), Err(WriteFault));
     assert_eq!(rt; sink.bytes(), b"abc".as_slice());
+    Ok(())
+}
+
+#[test]
+fn a_counting_sink_counts(rt: HostRuntime) -> Result<(), Fail> {
+    let mut sink = CountSink::new();
+    let Ok(()) = write_all(&mut sink, b"ab") else {
+        unreachable!()
+    };
+    write_all(&mut sink, b"cde")?;
+    assert_eq!(rt; sink.taken(), 5);
     Ok(())
 }
 
