@@ -1,21 +1,27 @@
--- The laws of the layers of a clearing step.
-use Rattle.std.proofs.Common.{ℕ, zero, suc, ◌≡◌, ◌≤◌, inl, inr, ⊎_elim, List, [], ◌∷◌, ◌++◌, ℤ, pos, ◌+ℤ◌, ◌-ℤ◌, ◌≤ℤ◌, ◌<ℤ◌, unsigned_abs, refl, ap, ◌∙◌, arith}
+-- The laws of the layers of a step.
+use Rattle.std.proofs.Common.{ℕ, zero, suc, ◌≡◌, ◌≤◌, inl, inr, ⊎_elim, List, [], ◌∷◌, ◌++◌, length, ℤ, pos, ◌+ℤ◌, ◌-ℤ◌, ◌≤ℤ◌, ◌<ℤ◌, unsigned_abs, refl, sym, ap, ◌∙◌, arith}
 use Rattle.std.proofs.lemmas.Int.{ints, by_lt_z}
 use Rattle.sn_geom.proofs.Ring.{sums}
+use Rattle.sn_geom.specs.declared.units.Pt.{Pt}
 use Rattle.sn_geom.specs.declared.tip.Tip.{Tip}
 use Rattle.sn_outline.specs.Job.{Job, tip_floor}
 use Rattle.sn_outline.specs.declared.job.StepJob.{StepJob}
+use Rattle.sn_outline.specs.declared.job.Way.TheVariants as way
+use Rattle.sn_outline.specs.declared.outline.Shape.{Shape}
+use Rattle.sn_outline.specs.declared.outline.Shape.TheVariants.{Trail}
 use Rattle.sn_raster.specs.Heights.{Pass}
 use Rattle.sn_open.specs.declared.stroke.Stroke.{Stroke}
+use Rattle.sn_fit.specs.Fit.{strokes_along, strokes_of_trail}
 use Rattle.sn_link.specs.declared.moves.Move.{Move}
 use Rattle.sn_link.specs.declared.moves.Move.TheVariants.{Feed}
 use Rattle.sn_link.specs.Layers.{AreLayers}
 use Rattle.sn_link.specs.Moves.{over, approach, lift}
-use Rattle.sn_link.specs.Plan.{NeedsNoLayer, IsClearPlan}
-use Rattle.sn_link.specs.PlanLaws.{LayersAreAnAxialDepthApart, LayersComeToTheFloor, OneListOfLayers, LinksAreFedOrLifted, LayersGoAlongTheirStrokes, LaterLayersBeginWhereTheLastCut, NothingToClearNoMoves}
-use Rattle.sn_link.proofs.ClearPlanLemmas.{one_list_of_layers, not_both}
-use Rattle.sn_link.proofs.PlanLawLemmas.{next_not_over, not_over}
-use Rattle.sn_link.proofs.StrokeLemmas.{no_strokes}
+use Rattle.sn_link.specs.Plan.{IsHighest, IsCutInLayers, IsStepPlan}
+use Rattle.sn_link.specs.PlanLaws.{LayersAreAnAxialDepthApart, LayersComeToTheFloor, OneListOfLayers, LinksAreFedOrLifted, LayersGoAlongTheirStrokes, LaterLayersBeginWhereTheLastCut, TrailsAreFollowedInLayers}
+use Rattle.sn_link.proofs.ByWayLemmas.{strokes_by}
+use Rattle.sn_link.proofs.ExampleLemmas.{trail_plan}
+use Rattle.sn_link.proofs.OnePlanLemmas.{moves_by, one_list_of_layers}
+use Rattle.sn_link.proofs.PlanLawLemmas.{by_its_way, not_under_too}
 
 -- Layers.
 
@@ -79,22 +85,22 @@ where_the_last_cut s moves (first, others, (rest, is_rest, is_first), (second, n
     is_second ∙ ap (λ (ms : List Move). approach (pos 20000) s.from (pos 7800) (pos 4000) ++ ms) is_rest' in
     is ∙ (λ i. one i ++ (is_others ∙ (λ j. two j ++ is_none j)) i)
 
--- No moves.
+-- Trails.
 
-rests : (job : Job) (step : StepJob) (passes : List Pass) (tip : Tip) (moves : List Move) (p : IsClearPlan job step passes tip moves)
-    → NeedsNoLayer step p.strokes p.above → moves ≡ []
-rests job step passes tip moves p clear =
-    ⊎_elim (λ (clear', none). none) (λ cleared. absurd (not_both job step p.strokes p.above tip moves clear cleared)) p.moves_are
+some_segment : (points : List Pt) → 2 ≤ length points → [] ≡ strokes_along points → ⊥
+some_segment [] long none = omega (arith, long)
+some_segment (a ∷ []) long none = omega (arith, long)
+some_segment (a ∷ b ∷ points) long none = cc
 
-pub nothing_to_clear_no_moves : NothingToClearNoMoves
-nothing_to_clear_no_moves job step passes tip moves rule p = (
-  λ low done.
-      rests job step passes tip moves p
-      (inl (⊎_elim (λ e. not_over (tip_floor step) job.low.z p.above e low)
-      (λ (c, left, allowed, e). next_not_over (tip_floor step) c.z p.above e (done c left allowed)) p.highest.reached)),
-  λ shut.
-      let q = p.clearing in
-      rests job step passes tip moves p
-      (inr (q.strokes_are ∙ no_strokes job step q.centres q.targets rule q.are_centres q.are_targets
-      (λ n has. let both = (q.are_targets.nodes n).0 has in shut n both.0 both.1))),
-)
+along_segments : (job : Job) (step : StepJob) (points : List Pt) (width : ℕ) (passes : List Pass) (tip : Tip) (moves : List Move) (above : ℤ)
+    → step.way ≡ way.Trail → step.outline.shape ≡ Trail points width → IsHighest job step passes above → tip_floor step <ℤ above → 2 ≤ length points
+    → IsStepPlan job step passes tip moves → IsCutInLayers job step (strokes_along points) above tip moves
+along_segments job step points width passes tip moves above follows has highest high long p =
+    let along : strokes_by job step way.Trail (strokes_along points) = sym (ap (λ (s : Shape). strokes_of_trail s) has) in
+    ⊎_elim
+    (λ (clear, rests). absurd (⊎_elim (λ low. not_under_too (tip_floor step) above low high) (λ none. some_segment points long (sym none)) clear))
+    (λ cut. cut)
+    (moves_by job step passes tip moves (strokes_along points) above p highest (by_its_way job step way.Trail (strokes_along points) follows along))
+
+pub followed_in_layers : TrailsAreFollowedInLayers
+followed_in_layers = (along_segments, record { steps = refl; moves = (trail_plan, tt) })

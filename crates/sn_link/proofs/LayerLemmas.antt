@@ -15,10 +15,12 @@ use Rattle.sn_geom.specs.declared.units.Pt3.{Pt3}
 use Rattle.sn_geom.specs.declared.tip.Tip.{Tip}
 use Rattle.sn_geom.specs.declared.tip.Tip.TheVariants.{Unknown, Height, At}
 use Rattle.sn_outline.specs.Job.{Job, tip_floor}
+use Rattle.sn_outline.specs.declared.job.Bottom.{Bottom}
+use Rattle.sn_outline.specs.declared.job.Bottom.TheVariants.{Flat, Conical, Through}
 use Rattle.sn_outline.specs.declared.job.StepJob.{StepJob}
 use Rattle.sn_raster.specs.Grid.{Node, place, InDisc}
 use Rattle.sn_raster.specs.Heights.{node_of, low_end, Pass, IsCutBy, IsMaterial}
-use Rattle.sn_open.specs.Region.{InAllowed}
+use Rattle.sn_open.specs.Region.{InAllowed, IsAllowedHeight}
 use Rattle.sn_open.specs.declared.stroke.Stroke.{Stroke}
 use Rattle.sn_link.specs.declared.moves.Move.{Move}
 use Rattle.sn_link.specs.declared.moves.Move.TheVariants.{Rapid, Feed}
@@ -28,9 +30,35 @@ use Rattle.sn_link.specs.Plan.{passes_by}
 use Rattle.sn_link.specs.Safe.{IsClearWay, IsSafeWay, AreSafe, IsAtSecurity}
 use Rattle.sn_link.proofs.MovesLemmas.{same_is, leaves, made_cases}
 use Rattle.sn_link.proofs.WayLemmas.{not_lower, touched, touches, clear_over}
-use Rattle.sn_link.proofs.DrillLemmas.{not_over_itself, higher, none_met, cut_from, end_over, height_by}
 
 -- Heights.
+
+not_over_itself : (z : ℤ) → z ≤ℤ z
+not_over_itself z = omega (arith, sums)
+
+higher : (low high : ℤ) → low <ℤ high → high ≡ low → ⊥
+higher low high below e = omega (arith, sums)
+
+-- what is not under the start of the feed is over the material or over the raw box
+none_met : (above sec top z : ℤ) → top ≤ℤ sec → z <ℤ above → z <ℤ top → int_min sec (int_min sec (above +ℤ pos GAP)) ≤ℤ z → ⊥
+none_met above sec top z safe low below reached =
+    let m = int_min_is sec (above +ℤ pos GAP) in
+    let n = int_min_is sec (int_min sec (above +ℤ pos GAP)) in
+    omega (arith, sums)
+
+-- the end of the feed down, less the length of the point
+cut_from : (tip from e z : ℤ) → (tip +ℤ e) ≤ℤ z → int_min from tip ≤ℤ (z -ℤ e)
+cut_from tip from e z high = let m = int_min_is from tip in omega (arith, sums)
+
+-- the end of the feed up is not under the tip of the layer
+end_over : (tip e reach : ℤ) → pos 0 ≤ℤ e → tip ≤ℤ reach → tip ≤ℤ int_min (tip +ℤ e) reach
+end_over tip e reach some within = let m = int_min_is (tip +ℤ e) reach in omega (arith, sums)
+
+-- a step may cut from its tip floor up
+height_by : (step : StepJob) (z : ℤ) (bottom : Bottom) → step.bottom ≡ bottom → tip_floor step ≤ℤ z → IsAllowedHeight step z
+height_by step z Flat e high = rw e (rw e at high)
+height_by step z Conical e high = rw e (rw e at high)
+height_by step z Through e high = rw e tt
 
 low_enough : (z above depth : ℤ) → z <ℤ above → above ≤ℤ depth → z <ℤ depth
 low_enough z above depth low shallow = omega (arith, sums)
@@ -117,7 +145,27 @@ pub record IsLayered (job : Job) (step : StepJob) (above tip : ℤ) : Type 0 whe
   pub over_floor : tip_floor step ≤ℤ tip
   pub under_sec : tip <ℤ job.sec
   pub under_above : tip <ℤ above
-  pub shallow : above ≤ℤ (tip +ℤ pos step.body.e +ℤ pos step.axial)
+
+-- sideways the tool cuts no deeper than it may
+abbrev pub IsShallowLayer : StepJob → ℤ → ℤ → Type 0
+IsShallowLayer step above tip = above ≤ℤ (tip +ℤ pos step.body.e +ℤ pos step.axial)
+
+-- along strokes too; a single one may have no length, and then the tool stays where it is
+abbrev pub AreShallowFrom : StepJob → ℤ → ℤ → Stroke → List Stroke → Type 0
+AreShallowFrom step above tip stroke [] = (stroke.from ≡ stroke.to) ⊎ IsShallowLayer step above tip
+AreShallowFrom step above tip stroke (next ∷ strokes) = IsShallowLayer step above tip
+
+abbrev pub AreShallow : StepJob → ℤ → ℤ → List Stroke → Type 0
+AreShallow step above tip [] = Unit {0}
+AreShallow step above tip (first ∷ strokes) = AreShallowFrom step above tip first strokes
+
+shallow_from : (step : StepJob) (above tip : ℤ) (stroke : Stroke) (strokes : List Stroke) → IsShallowLayer step above tip → AreShallowFrom step above tip stroke strokes
+shallow_from step above tip stroke [] shallow = inr shallow
+shallow_from step above tip stroke (next ∷ strokes) shallow = shallow
+
+pub all_shallow : (step : StepJob) (above tip : ℤ) (strokes : List Stroke) → IsShallowLayer step above tip → AreShallow step above tip strokes
+all_shallow step above tip [] shallow = tt
+all_shallow step above tip (first ∷ strokes) shallow = shallow_from step above tip first strokes shallow
 
 -- One move and the rest.
 
@@ -192,19 +240,22 @@ module _ (job : Job) (step : StepJob) where
   }
 
   -- along a free way at the tip of a layer
-  safe_along : (before : List Pass) (p q : Pt) (above tip : ℤ) → IsLayered job step above tip → IsFreeWay job step p q
-      → IsLow job before (along job step p q) above → IsSafeWay job step before (over p tip) (over q tip)
-  safe_along before p q above tip heights free low = record {
+  safe_along : (before : List Pass) (p q : Pt) (above tip : ℤ) → IsLayered job step above tip → (p ≡ q) ⊎ IsShallowLayer step above tip
+      → IsFreeWay job step p q → IsLow job before (along job step p q) above → IsSafeWay job step before (over p tip) (over q tip)
+  safe_along before p q above tip heights shallow free low = record {
     allowed = λ c left touch.
         let met = (touch_by_height_and_plan step.body.d (over p tip) (over q tip) (low_end job.pitch c) (inl refl)).0 touch in
         record {
           node = free (node_of c) met.1;
           height = height_by step c.z step.bottom refl (not_lower (tip_floor step) tip tip c.z heights.over_floor heights.over_floor met.0);
         };
-    shallow = inr (λ c left touch.
+    shallow = ⊎_elim
+        (λ (same : p ≡ q). inl (ap (λ (r : Pt). r.x) same, ap (λ (r : Pt). r.y) same))
+        (λ depth.
+        inr (λ c left touch.
         let met = (touch_by_height_and_plan step.body.d (over p tip) (over q tip) (low_end job.pitch c) (inl refl)).0 touch in
-        let shallow = low_enough c.z above (tip +ℤ pos step.body.e +ℤ pos step.axial) (low c left met.1) heights.shallow in
-        (shallow, shallow));
+        let under = low_enough c.z above (tip +ℤ pos step.body.e +ℤ pos step.axial) (low c left met.1) depth in
+        (under, under))) shallow;
   }
 
   abbrev full : ℤ → ℤ
@@ -247,13 +298,13 @@ module _ (job : Job) (step : StepJob) (Q : List Pass → Type 0) (above tip : �
   IsRoom p = (n : Node) → under job step p n → InAllowed job step n
 
   -- at feed along a free way
-  along_on : (before : List Pass) (p q : Pt) (rest : List Move) → IsFreeWay job step p q → IsLow job before (along job step p q) above
-      → IsLow job before (under job step p) cut
+  along_on : (before : List Pass) (p q : Pt) (rest : List Move) → (p ≡ q) ⊎ IsShallowLayer step above tip → IsFreeWay job step p q
+      → IsLow job before (along job step p q) above → IsLow job before (under job step p) cut
       → ((later : List Pass) → LeavesNoMore job before later → IsLow job later (along job step p q) cut
       → IsGoodHere later (At (over q tip)) (made (At (over q tip)) rest))
       → IsGoodHere before (At (over p tip)) (made (At (over p tip)) (Feed (over q tip) ∷ rest))
-  along_on before p q rest free low here next =
-      feed_on job step Q before (over p tip) (over q tip) rest (inl refl) (safe_along job step before p q above tip heights free low)
+  along_on before p q rest shallow free low here next =
+      feed_on job step Q before (over p tip) (over q tip) rest (inl refl) (safe_along job step before p q above tip heights shallow free low)
       (λ later keeps gone. next later keeps (low_along job step before later p q tip keeps here gone))
 
   -- where the feed up ends
@@ -321,16 +372,16 @@ module _ (job : Job) (step : StepJob) (Q : List Pass → Type 0) (above tip : �
       → IsLow job later (λ n. IsFreeWay job step p q × along job step p q n) cut
       → IsGoodHere later (At (over q tip)) (made (At (over q tip)) rest)
 
-  link_on : (before : List Pass) (p q : Pt) (link rest : List Move) → IsRoom p → IsRoom q
+  link_on : (before : List Pass) (p q : Pt) (link rest : List Move) → IsShallowLayer step above tip → IsRoom p → IsRoom q
       → IsLow job before (under job step p) cut → IsLow job before (under job step q) above
       → IsLow job before (λ n. IsFreeWay job step p q × along job step p q n) above
       → IsLink job step above tip p q link → AfterLink p q before rest
       → IsGoodHere before (At (over p tip)) (made (At (over p tip)) (link ++ rest))
-  link_on before p q link rest room_p room_q low_p low_q low (inl (free, is)) next =
+  link_on before p q link rest shallow room_p room_q low_p low_q low (inl (free, is)) next =
       subst (λ (ms : List Move). IsGoodHere before (At (over p tip)) (made (At (over p tip)) (ms ++ rest))) (sym is)
-      (along_on before p q rest free (λ c left near. low c left (free, near)) low_p
+      (along_on before p q rest (inr shallow) free (λ c left near. low c left (free, near)) low_p
       (λ later keeps gone. next later keeps (λ c left disc. gone c left (under_end job step p q (node_of c) disc)) (λ c left (free', near). gone c left near)))
-  link_on before p q link rest room_p room_q low_p low_q low (inr (shut, is)) next =
+  link_on before p q link rest shallow room_p room_q low_p low_q low (inr (shut, is)) next =
       subst (λ (ms : List Move). IsGoodHere before (At (over p tip)) (made (At (over p tip)) (ms ++ rest))) (sym is)
       (lift_on before p (approach job.sec q above tip ++ rest) room_p low_p
       (λ later keeps.
@@ -338,23 +389,24 @@ module _ (job : Job) (step : StepJob) (Q : List Pass → Type 0) (above tip : �
       (λ last keeps' gone. next last (λ c left. keeps c (keeps' c left)) gone (λ c left (free, near). absurd (shut free)))))
 
   strokes_on : (strokes : List Stroke) (stroke : Stroke) (moves rest : List Move) (before : List Pass)
-      → IsFreeWay job step stroke.from stroke.to → AreFree job step strokes → AreStrokeMoves job step above tip stroke strokes moves
+      → AreShallowFrom step above tip stroke strokes → IsFreeWay job step stroke.from stroke.to → AreFree job step strokes
+      → AreStrokeMoves job step above tip stroke strokes moves
       → IsLow job before (NearRest job step stroke strokes) above → IsLow job before (under job step stroke.from) cut
       → AfterLayer (NearRest job step stroke strokes) before rest
       → IsGoodHere before (At (over stroke.from tip)) (made (At (over stroke.from tip)) (moves ++ rest))
-  strokes_on [] stroke moves rest before free others is low here next =
+  strokes_on [] stroke moves rest before shallow free others is low here next =
       subst (λ (ms : List Move). IsGoodHere before (At (over stroke.from tip)) (made (At (over stroke.from tip)) (ms ++ rest))) (sym is)
-      (along_on before stroke.from stroke.to (lift job.sec stroke.to tip step.body.e ++ rest) free low here
+      (along_on before stroke.from stroke.to (lift job.sec stroke.to tip step.body.e ++ rest) shallow free low here
       (λ later keeps gone.
       lift_on later stroke.to rest (λ n disc. free n (under_end job step stroke.from stroke.to n disc))
       (λ c left disc. gone c left (under_end job step stroke.from stroke.to (node_of c) disc))
       (λ last keeps'. next last (At (over stroke.to job.sec)) refl (λ c left. keeps c (keeps' c left)) (λ c left near. gone c (keeps' c left) near))))
-  strokes_on (second ∷ strokes) stroke moves rest before free others (link, more, is_link, are_more, is) low here next =
+  strokes_on (second ∷ strokes) stroke moves rest before shallow free others (link, more, is_link, are_more, is) low here next =
       let split = append_assoc link more rest in
       let begun : IsGoodHere before (At (over stroke.from tip)) (made (At (over stroke.from tip)) (Feed (over stroke.to tip) ∷ link ++ (more ++ rest))) =
-      along_on before stroke.from stroke.to (link ++ (more ++ rest)) free (λ c left near. low c left (inl near)) here
+      along_on before stroke.from stroke.to (link ++ (more ++ rest)) (inr shallow) free (λ c left near. low c left (inl near)) here
       (λ later keeps gone.
-      link_on later stroke.to second.from link (more ++ rest)
+      link_on later stroke.to second.from link (more ++ rest) shallow
       (λ n disc. free n (under_end job step stroke.from stroke.to n disc))
       (λ n disc. others.0 n (under_start job step second.from second.to n disc))
       (λ c left disc. gone c left (under_end job step stroke.from stroke.to (node_of c) disc))
@@ -362,7 +414,7 @@ module _ (job : Job) (step : StepJob) (Q : List Pass → Type 0) (above tip : �
       (λ c left near. low c (keeps c left) (inr (inl near)))
       is_link
       (λ linked keeps' at_second on_link.
-      strokes_on strokes second more rest linked others.0 others.1 are_more
+      strokes_on strokes second more rest linked (shallow_from step above tip second strokes shallow) others.0 others.1 are_more
       (λ c left near. low c (keeps c (keeps' c left)) (inr (inr near))) at_second
       (λ last from at keeps'' low_last.
       next last from at (λ c left. keeps c (keeps' c (keeps'' c left)))
@@ -373,27 +425,28 @@ module _ (job : Job) (step : StepJob) (Q : List Pass → Type 0) (above tip : �
       subst (λ (ms : List Move). P (ms ++ rest)) (sym is) (subst (λ (ms : List Move). P (Feed (over stroke.to tip) ∷ ms)) (sym split) begun)
 
   layer_on : (strokes : List Stroke) (moves rest : List Move) (before : List Pass) (from : Tip) → IsAtSecurity job from
-      → AreFree job step strokes → IsLayer job step above tip strokes moves → IsLow job before (NearAny job step strokes) above
+      → AreShallow step above tip strokes → AreFree job step strokes → IsLayer job step above tip strokes moves → IsLow job before (NearAny job step strokes) above
       → AfterLayer (NearAny job step strokes) before rest
       → IsGoodHere before from (made from (moves ++ rest))
-  layer_on [] moves rest before from at free is low next =
+  layer_on [] moves rest before from at shallow free is low next =
       subst (λ (ms : List Move). IsGoodHere before from (made from (ms ++ rest))) (sym is)
       (next before from at (λ c left. left) (λ c left none. absurd none))
-  layer_on (first ∷ strokes) moves rest before from at free (more, are, is) low next =
+  layer_on (first ∷ strokes) moves rest before from at shallow free (more, are, is) low next =
       subst (λ (ms : List Move). IsGoodHere before from (made from (ms ++ rest))) (sym is)
       (approach_on before from first.from (more ++ rest) at (λ n disc. free.0 n (under_start job step first.from first.to n disc))
       (λ c left disc. low c left (near_first job step first strokes (node_of c) (under_start job step first.from first.to (node_of c) disc)))
       (λ later keeps gone.
-      strokes_on strokes first more rest later free.0 free.1 are (λ c left near. low c (keeps c left) near) gone
+      strokes_on strokes first more rest later shallow free.0 free.1 are (λ c left near. low c (keeps c left) near) gone
       (λ last end at' keeps' low'. next last end at' (λ c left. keeps c (keeps' c left)) low')))
 
 -- All layers.
 
 -- the heights of layers: each begins where the tool cut in the one before it, and the last is at the floor
-abbrev pub AreLayered : Job → StepJob → ℤ → List ℤ → Type 0
-AreLayered job step above [] = ⊥
-AreLayered job step above (tip ∷ []) = IsLayered job step above tip × (tip ≡ tip_floor step)
-AreLayered job step above (tip ∷ next ∷ tips) = IsLayered job step above tip × AreLayered job step (tip +ℤ pos step.body.e) (next ∷ tips)
+abbrev pub AreLayered : Job → StepJob → List Stroke → ℤ → List ℤ → Type 0
+AreLayered job step strokes above [] = ⊥
+AreLayered job step strokes above (tip ∷ []) = IsLayered job step above tip × AreShallow step above tip strokes × (tip ≡ tip_floor step)
+AreLayered job step strokes above (tip ∷ next ∷ tips) =
+    IsLayered job step above tip × AreShallow step above tip strokes × AreLayered job step strokes (tip +ℤ pos step.body.e) (next ∷ tips)
 
 -- what holds of the passes where nothing is left over where the tool cuts at the floor
 abbrev pub HoldsAtFloor : Job → StepJob → (List Pass → Type 0) → List Stroke → Type 0
@@ -402,24 +455,24 @@ HoldsAtFloor job step Q strokes =
 
 pub layers_on : (job : Job) (step : StepJob) (Q : List Pass → Type 0) (strokes : List Stroke) → AreFree job step strokes → HoldsAtFloor job step Q strokes
     → (tips : List ℤ) (above : ℤ) (moves : List Move) (before : List Pass) (from : Tip) → IsAtSecurity job from
-    → AreLayered job step above tips → AreLayerMoves job step strokes above tips moves → IsLow job before (NearAny job step strokes) above
+    → AreLayered job step strokes above tips → AreLayerMoves job step strokes above tips moves → IsLow job before (NearAny job step strokes) above
     → IsGoodRest job step Q before from (made from moves)
 layers_on job step Q strokes free holds [] above moves before from at heights are low = absurd heights
 layers_on job step Q strokes free holds (tip ∷ []) above moves before from at heights (layer, rest, is_layer, none, is) low =
     let P : List Move → Type 0 = λ ms. IsGoodRest job step Q before from (made from ms) in
     subst P (sym is) (subst (λ (ms : List Move). P (layer ++ ms)) (sym none)
-    (layer_on job step Q above tip heights.0 strokes layer [] before from at free is_layer low
+    (layer_on job step Q above tip heights.0 strokes layer [] before from at heights.1 free is_layer low
     (λ later end at' keeps gone. record {
       safe = tt;
       straight = tt;
       ends = at';
       after = holds (later ++ []) (λ c left near.
           let N : ℤ → Type 0 = λ z. c.z <ℤ (z +ℤ pos step.body.e) in
-          subst N heights.1 (gone c (more_left job later [] c left) near));
+          subst N heights.2 (gone c (more_left job later [] c left) near));
     })))
 layers_on job step Q strokes free holds (tip ∷ next ∷ tips) above moves before from at heights (layer, rest, is_layer, others, is) low =
     let P : List Move → Type 0 = λ ms. IsGoodRest job step Q before from (made from ms) in
     subst P (sym is)
-    (layer_on job step Q above tip heights.0 strokes layer rest before from at free is_layer low
+    (layer_on job step Q above tip heights.0 strokes layer rest before from at heights.1 free is_layer low
     (λ later end at' keeps gone.
-    layers_on job step Q strokes free holds (next ∷ tips) (tip +ℤ pos step.body.e) rest later end at' heights.1 others gone))
+    layers_on job step Q strokes free holds (next ∷ tips) (tip +ℤ pos step.body.e) rest later end at' heights.2 others gone))

@@ -1,5 +1,5 @@
 -- How high material stands, and what moves cut of it.
-use Rattle.std.proofs.Common.{ℕ, ◌≡◌, ◌<◌, ◌≤◌, ◌⊎◌, inl, inr, ⊎_elim, ℤ, pos, negsuc, ◌+ℤ◌, ◌≤ℤ◌, ◌<ℤ◌, List, [], ◌∷◌, ◌++◌, refl, append_assoc, append-nil, w32, to_z, of_z, sym, ap, ◌∙◌, subst, arith}
+use Rattle.std.proofs.Common.{ℕ, ◌≡◌, ◌<◌, ◌≤◌, inl, inr, ⊎_elim, ℤ, pos, negsuc, ◌+ℤ◌, ◌≤ℤ◌, ◌<ℤ◌, List, [], ◌∷◌, ◌++◌, refl, append_assoc, append-nil, w32, to_z, of_z, sym, ap, ◌∙◌, subst, arith}
 use lib.Signed.{mag}
 use Rattle.std.proofs.lemmas.Int.{ints, to_z-of_z}
 use Rattle.sn_geom.proofs.Ring.{sums}
@@ -9,15 +9,13 @@ use Rattle.sn_geom.specs.Tip.{tip_after}
 use Rattle.sn_geom.specs.declared.tip.Tip.{Tip}
 use Rattle.sn_geom.specs.declared.tip.Tip.TheVariants.{Unknown, Height, At}
 use Rattle.sn_geom.specs.declared.units.Body.{Body}
-use Rattle.sn_geom.specs.declared.units.Cell.{Cell}
 use Rattle.sn_outline.specs.Job.{Job}
 use Rattle.sn_outline.specs.declared.job.StepJob.{StepJob}
-use Rattle.sn_raster.specs.Grid.{Grid, Node, IsGrid, IsGridOf, IsInRaw, IsInWindow}
+use Rattle.sn_raster.specs.Grid.{Grid, Node, IsGrid, IsInRaw, IsInWindow}
 use Rattle.sn_raster.specs.GridLaws.{RawNodesAreTheJobs}
-use Rattle.sn_raster.specs.Heights.{node_of, HeightMap, HasCell, IsMaterial, IsTopOfCells, Pass, StandsFor}
+use Rattle.sn_raster.specs.Heights.{node_of, HeightMap, IsTopOfCells, Pass, StandsFor}
 use Rattle.sn_raster.specs.Plane.{Plane, Has}
 use Rattle.sn_open.specs.Planes.{AreAllowed, CellSet}
-use Rattle.sn_open.specs.Region.{InAllowed}
 use Rattle.sn_link.specs.declared.moves.Move.{Move}
 use Rattle.sn_link.specs.declared.moves.Move.TheVariants.{Rapid, Feed}
 use Rattle.sn_link.specs.Moves.{end_of, AreStraight, tip_after_moves}

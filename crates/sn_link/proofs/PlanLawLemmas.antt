@@ -1,136 +1,194 @@
 -- The laws of plans.
-use Rattle.std.proofs.Common.{ℕ, ◌≡◌, ◌≢◌, Option, ◌⊎◌, inl, inr, ⊎_elim, None, Some, List, [], ◌∷◌, ◌++◌, map, ℤ, pos, ◌+ℤ◌, ◌≤ℤ◌, ◌<ℤ◌, refl, sym, ap, subst, ◌∙◌, arith}
+use Rattle.std.proofs.Common.{ℕ, ◌≡◌, ◌≢◌, ◌<◌, Option, ◌⊎◌, inl, inr, ⊎_elim, None, Some, List, [], ◌∷◌, ◌++◌, length, map, ℤ, pos, ◌+ℤ◌, ◌≤ℤ◌, ◌<ℤ◌, refl, sym, ap, subst, ◌∙◌, append-nil, arith}
 use Rattle.std.proofs.lemmas.Int.{by_lt_z}
 use Rattle.sn_geom.proofs.Ring.{sums}
-use Rattle.sn_geom.specs.declared.units.Cell.{Cell}
 use Rattle.sn_geom.specs.declared.units.Pt.{Pt}
+use Rattle.sn_geom.specs.declared.units.Pt3.{Pt3}
+use Rattle.sn_geom.specs.declared.tip.Tip.{Tip}
+use Rattle.sn_geom.specs.declared.tip.Tip.TheVariants.{Unknown, Height, At}
+use Rattle.sn_geom.specs.Tip.{tip_after}
 use Rattle.sn_outline.specs.Job.{Job, tip_floor}
 use Rattle.sn_outline.specs.declared.job.StepJob.{StepJob}
 use Rattle.sn_outline.specs.declared.job.Way.{Way}
 use Rattle.sn_outline.specs.declared.job.Way.TheVariants as way
 use Rattle.sn_outline.specs.declared.outline.Shape.{Shape}
-use Rattle.sn_outline.specs.declared.outline.Shape.TheVariants.{Rect, Circle, Polygon, Trail}
-use Rattle.sn_link.specs.Examples.{drill, with_other_tool}
-use Rattle.sn_raster.specs.Heights.{node_of, Pass, IsMaterial}
-use Rattle.sn_open.specs.Region.{InAllowed}
-use Rattle.sn_geom.specs.declared.tip.Tip.{Tip}
-use Rattle.sn_geom.specs.declared.tip.Tip.TheVariants.{Unknown, Height}
+use Rattle.sn_outline.specs.declared.outline.Shape.TheVariants.{Circle}
+use Rattle.sn_raster.specs.Heights.{Pass}
+use Rattle.sn_open.specs.declared.stroke.Stroke.{Stroke}
+use Rattle.sn_fit.specs.Fit.{strokes_along, strokes_of_trail, strokes_at_centre, OpensSome, AreDrillStrokes}
 use Rattle.sn_link.specs.declared.moves.Move.{Move}
-use Rattle.sn_link.specs.Moves.{plunge, made, tip_for, tip_after_moves}
-use Rattle.sn_link.specs.Plan.{IsIdle, IsBusy, IsDrillPlan, IsPlanBy, IsStepPlan, ArePlans, passes_by}
-use Rattle.sn_link.proofs.ClearPlanLemmas.{one_clear_plan}
-use Rattle.sn_link.specs.PlanLaws.{OneHighest, OnePlan, NothingToCutNoMoves, RepeatedStepsRest, StepsBeginAtTheTip, PlungesFrom}
+use Rattle.sn_link.specs.declared.moves.Move.TheVariants.{Rapid, Feed}
+use Rattle.sn_link.specs.Examples.{at, drill, with_other_tool}
+use Rattle.sn_link.specs.Layers.{IsClearing, AreStrokes, AreLayerMoves}
+use Rattle.sn_link.specs.Moves.{over, approach, lift, plunge, made, same_place, stands_at, tip_for, tip_after_moves}
+use Rattle.sn_link.specs.Plan.{IsHighest, NeedsNoLayer, IsCutInLayers, IsStepPlan, ArePlans, passes_by}
+use Rattle.sn_link.specs.PlanLaws.{OnePlan, NothingToCutNoMoves, RepeatedStepsRest, StepsBeginAtTheTip, PlungesFrom, DrillsPlunge}
+use Rattle.sn_link.proofs.ByWayLemmas.{layers_by, strokes_by}
+use Rattle.sn_link.proofs.ExampleLemmas.{hole_plan}
+use Rattle.sn_link.proofs.MovesLemmas.{by_test, same_test}
+use Rattle.sn_link.proofs.OnePlanLemmas.{moves_by, not_both, one_list_of_strokes, one_step_plan}
+use Rattle.sn_link.proofs.StrokeLemmas.{no_strokes}
 
 -- Heights.
 
--- the height over the low end is not that of a cell
-over_low : (low above z : ℤ) → above ≡ low → low ≤ℤ z → z <ℤ above → ⊥
-over_low low above z e h k = omega (arith, sums)
+pub not_under_too : (floor above : ℤ) → above ≤ℤ floor → floor <ℤ above → ⊥
+not_under_too floor above low high = omega (arith, sums)
 
-same_top : (y z a b : ℤ) → a ≡ y +ℤ pos 1 → b ≡ z +ℤ pos 1 → y <ℤ b → z <ℤ a → a ≡ b
-same_top y z a b e f h k = omega (arith, sums)
+some_stroke : (stroke : Stroke) (strokes : List Stroke) → [] ≡ stroke ∷ strokes → ⊥
+some_stroke stroke strokes e = cc
 
--- where material ends: at the raw bottom, or over a cell
-abbrev EndsAt : Job → StepJob → List Pass → ℤ → Type 0
-EndsAt job step passes above = (above ≡ job.low.z) ⊎ ((c : Cell) × IsMaterial job passes c × InAllowed job step (node_of c) × (above ≡ c.z +ℤ pos 1))
-
-abbrev IsUnder : Job → StepJob → List Pass → ℤ → Type 0
-IsUnder job step passes above = (c : Cell) → IsMaterial job passes c → InAllowed job step (node_of c) → c.z <ℤ above
-
-same_end : (job : Job) (step : StepJob) (passes : List Pass) (a b : ℤ) → IsUnder job step passes a → IsUnder job step passes b
-    → EndsAt job step passes a → EndsAt job step passes b → a ≡ b
-same_end job step passes a b under_a under_b (inl e) (inl f) = e ∙ sym f
-same_end job step passes a b under_a under_b (inl e) (inr (c, left, allowed, f)) = absurd (over_low job.low.z a c.z e left.raw.above (under_a c left allowed))
-same_end job step passes a b under_a under_b (inr (c, left, allowed, e)) (inl f) = absurd (over_low job.low.z b c.z f left.raw.above (under_b c left allowed))
-same_end job step passes a b under_a under_b (inr (c, left, allowed, e)) (inr (d, left', allowed', f)) =
-    same_top c.z d.z a b e f (under_b c left allowed) (under_a d left' allowed')
-
-pub one_highest : OneHighest
-one_highest job step passes a b p q = same_end job step passes a b p.bounds q.bounds p.reached q.reached
-
--- Plans.
-
-lower_too : (floor a b : ℤ) → a ≡ b → a ≤ℤ floor → floor <ℤ b → ⊥
-lower_too floor a b e h k = omega (arith, sums)
-
--- a step that is idle has nothing to do, wherever its height comes from
-not_both : (job : Job) (step : StepJob) (a b : ℤ) → a ≡ b → IsIdle job step a → IsBusy job step b → ⊥
-not_both job step a b same (inl low) busy = lower_too (tip_floor step) a b same low busy.high
-not_both job step a b same (inr shut) busy = shut busy.node busy.opened
-
-one_drill_plan : (job : Job) (step : StepJob) (centre : Pt) (passes : List Pass) (tip : Tip) (some others : List Move)
-    → IsDrillPlan job step centre passes tip some → IsDrillPlan job step centre passes tip others → some ≡ others
-one_drill_plan job step centre passes tip some others p q =
-    let same = one_highest job step passes p.above q.above p.highest q.highest in
-    ⊎_elim
-    (λ (idle, none). ⊎_elim (λ (idle', none'). none ∙ sym none') (λ (busy, moved). absurd (not_both job step p.above q.above same idle busy)) q.moves_are)
-    (λ (busy, moved).
-    ⊎_elim (λ (idle, none). absurd (not_both job step q.above p.above (sym same) idle busy))
-    (λ (busy', moved'). moved ∙ ap (λ z. made tip (plunge job step centre z)) same ∙ sym moved') q.moves_are)
-    p.moves_are
-
-by_way : (job : Job) (step : StepJob) (passes : List Pass) (tip : Tip) (some others : List Move) (w : Way) (shape : Shape)
-    → IsPlanBy job step passes tip some w shape → IsPlanBy job step passes tip others w shape → some ≡ others
-by_way job step passes tip some others way.Clear shape p q =
-    one_clear_plan job step passes tip some others (one_highest job step passes) p q
-by_way job step passes tip some others way.Trail shape p q = absurd p
-by_way job step passes tip some others way.Drill (Rect low high) p q = absurd p
-by_way job step passes tip some others way.Drill (Circle centre d) p q = one_drill_plan job step centre passes tip some others p q
-by_way job step passes tip some others way.Drill (Polygon points) p q = absurd p
-by_way job step passes tip some others way.Drill (Trail points width) p q = absurd p
-
-one_step_plan : (job : Job) (step : StepJob) (passes : List Pass) (tip : Tip) (some others : List Move)
-    → IsStepPlan job step passes tip some → IsStepPlan job step passes tip others → some ≡ others
-one_step_plan job step passes tip some others p q = by_way job step passes tip some others step.way step.outline.shape p q
-
-pub next_not_over : (floor z above : ℤ) → above ≡ z +ℤ pos 1 → z <ℤ floor → above ≤ℤ floor
+next_not_over : (floor z above : ℤ) → above ≡ z +ℤ pos 1 → z <ℤ floor → above ≤ℤ floor
 next_not_over floor z above e h = omega (arith, sums)
 
-pub not_over : (floor low above : ℤ) → above ≡ low → low ≤ℤ floor → above ≤ℤ floor
+not_over : (floor low above : ℤ) → above ≡ low → low ≤ℤ floor → above ≤ℤ floor
 not_over floor low above e h = omega (arith, sums)
-
--- a drilling step without moves, where it has nothing to do
-no_moves : (job : Job) (step : StepJob) (centre : Pt) (passes : List Pass) (tip : Tip) (moves : List Move)
-    → (p : IsDrillPlan job step centre passes tip moves) → IsIdle job step p.above → moves ≡ []
-no_moves job step centre passes tip moves p idle =
-    ⊎_elim (λ (idle', none). none) (λ (busy, moved). absurd (not_both job step p.above p.above refl idle busy)) p.moves_are
-
-pub nothing_to_cut_no_moves : NothingToCutNoMoves
-nothing_to_cut_no_moves job step centre passes tip moves p = (
-  λ low done.
-      no_moves job step centre passes tip moves p
-      (inl (⊎_elim (λ e. not_over (tip_floor step) job.low.z p.above e low)
-      (λ (c, left, allowed, e). next_not_over (tip_floor step) c.z p.above e (done c left allowed)) p.highest.reached)),
-  λ shut. no_moves job step centre passes tip moves p (inr shut),
-)
 
 next_not_over_unless : (floor z above : ℤ) → above ≡ z +ℤ pos 1 → (floor ≤ℤ z → ⊥) → above ≤ℤ floor
 next_not_over_unless floor z above e other = by_lt_z z floor (λ lower. next_not_over floor z above e lower) (λ not_lower. absurd (other not_lower))
+
+-- material is left above the tip floor, and there is a stroke
+pub has_something : (step : StepJob) (stroke : Stroke) (strokes : List Stroke) (above : ℤ) → tip_floor step <ℤ above → NeedsNoLayer step (stroke ∷ strokes) above → ⊥
+has_something step stroke strokes above high (inl low) = not_under_too (tip_floor step) above low high
+has_something step stroke strokes above high (inr none) = some_stroke stroke strokes (sym none)
+
+-- Nothing to do.
+
+-- a step without moves, where it has nothing to do
+no_moves : (job : Job) (step : StepJob) (passes : List Pass) (tip : Tip) (moves : List Move) (p : IsStepPlan job step passes tip moves)
+    → NeedsNoLayer step p.strokes p.above → moves ≡ []
+no_moves job step passes tip moves p clear =
+    ⊎_elim (λ (clear', none). none) (λ cut. absurd (not_both job step p.strokes p.above tip moves clear cut)) p.moves_are
+
+without_stroke : (job : Job) (step : StepJob) (passes : List Pass) (tip : Tip) (moves : List Move) → IsStepPlan job step passes tip moves
+    → (strokes : List Stroke) → AreStrokes job step strokes → strokes ≡ [] → moves ≡ []
+without_stroke job step passes tip moves p strokes are none =
+    no_moves job step passes tip moves p (inr (one_list_of_strokes job step p.strokes strokes p.strokes_are are ∙ none))
+
+pub by_its_way : (job : Job) (step : StepJob) (w : Way) (strokes : List Stroke) → step.way ≡ w → strokes_by job step w strokes → AreStrokes job step strokes
+by_its_way job step w strokes is are = subst (λ (v : Way). strokes_by job step v strokes) (sym is) are
+
+from_its_way : (job : Job) (step : StepJob) (w : Way) (strokes : List Stroke) → step.way ≡ w → AreStrokes job step strokes → strokes_by job step w strokes
+from_its_way job step w strokes is are = subst (λ (v : Way). strokes_by job step v strokes) is are
+
+short_trail : (points : List Pt) → length points < 2 → strokes_along points ≡ []
+short_trail [] short = refl
+short_trail (a ∷ []) short = refl
+short_trail (a ∷ b ∷ points) short = absurd (omega (arith, short))
+
+pub nothing_to_cut_no_moves : NothingToCutNoMoves
+nothing_to_cut_no_moves job step passes tip moves p = (
+  λ low done.
+      no_moves job step passes tip moves p
+      (inl (⊎_elim (λ e. not_over (tip_floor step) job.low.z p.above e low)
+      (λ (c, left, allowed, e). next_not_over (tip_floor step) c.z p.above e (done c left allowed)) p.highest.reached)),
+  λ none. without_stroke job step passes tip moves p [] none refl,
+  λ drills shut. without_stroke job step passes tip moves p [] (by_its_way job step way.Drill [] drills (inr ((λ (n, opened). shut n opened), refl))) refl,
+  λ rule clears shut.
+      let q : IsClearing job step p.strokes = from_its_way job step way.Clear p.strokes clears p.strokes_are in
+      no_moves job step passes tip moves p
+      (inr (q.strokes_are ∙ no_strokes job step q.centres q.targets rule q.are_centres q.are_targets
+      (λ n has. let both = (q.are_targets.nodes n).0 has in shut n both.0 both.1))),
+  λ points width follows has short.
+      let along : p.strokes ≡ strokes_of_trail step.outline.shape = from_its_way job step way.Trail p.strokes follows p.strokes_are in
+      no_moves job step passes tip moves p (inr (along ∙ ap (λ (s : Shape). strokes_of_trail s) has ∙ short_trail points short)),
+)
 
 pub repeated_steps_rest : RepeatedStepsRest
 repeated_steps_rest job first some [] low plans cut = refl
 repeated_steps_rest job first some (move ∷ moves) low plans cut =
     let p = plans.1.0 in
-    no_moves job drill _ _ _ (move ∷ moves) p
+    no_moves job drill _ _ (move ∷ moves) p
     (inl (⊎_elim (λ e. not_over (tip_floor drill) job.low.z p.above e low)
     (λ (c, left, allowed, e). next_not_over_unless (tip_floor drill) c.z p.above e
     (λ over. let (pass, inside, by) = cut c left.raw allowed over in left.uncut pass inside by)) p.highest.reached))
 
-plunges : (job : Job) (step : StepJob) (centre : Pt) (passes : List Pass) (tip : Tip) (moves : List Move)
-    → moves ≢ [] → IsDrillPlan job step centre passes tip moves → (above : ℤ) × (moves ≡ made tip (plunge job step centre above))
-plunges job step centre passes tip moves moved p = ⊎_elim (λ (idle, none). absurd (moved none)) (λ (busy, is). (p.above, is)) p.moves_are
+-- Plunges.
+
+-- a feed to where the tip is already is left out
+feed_again : (q p : Pt3) (rest : List Move) → made (At q) (Feed p ∷ Feed p ∷ rest) ≡ made (At q) (Feed p ∷ rest)
+feed_again q p rest =
+    by_test (same_place q p) (made (At q) (Feed p ∷ Feed p ∷ rest) ≡ made (At q) (Feed p ∷ rest))
+    (λ same. rw same refl)
+    (λ other. rw (other, same_test p) refl)
+
+rapid_first : (tip : Tip) (p : Pt3) (some others : List Move) → made tip some ≡ made tip others → made (tip_after tip p) some ≡ made (tip_after tip p) others
+    → made tip (Rapid p ∷ some) ≡ made tip (Rapid p ∷ others)
+rapid_first tip p some others stays goes =
+    by_test (stands_at tip p) (made tip (Rapid p ∷ some) ≡ made tip (Rapid p ∷ others))
+    (λ same. rw same stays)
+    (λ other. rw other (ap (λ (ms : List Move). Rapid p ∷ ms) goes))
+
+feed_twice : (tip : Tip) (a b p : Pt3) (rest : List Move) → made tip (Rapid a ∷ Rapid b ∷ Feed p ∷ Feed p ∷ rest) ≡ made tip (Rapid a ∷ Rapid b ∷ Feed p ∷ rest)
+feed_twice Unknown a b p rest = ap (λ (ms : List Move). Rapid a ∷ Rapid b ∷ ms) (feed_again b p rest)
+feed_twice (Height z) a b p rest =
+    ap (λ (ms : List Move). Rapid a ∷ ms) (rapid_first (At a) b (Feed p ∷ Feed p ∷ rest) (Feed p ∷ rest) (feed_again a p rest) (feed_again b p rest))
+feed_twice (At q) a b p rest =
+    let next : (r : Pt3) → made (At r) (Rapid b ∷ Feed p ∷ Feed p ∷ rest) ≡ made (At r) (Rapid b ∷ Feed p ∷ rest) =
+    (λ r. rapid_first (At r) b (Feed p ∷ Feed p ∷ rest) (Feed p ∷ rest) (feed_again r p rest) (feed_again b p rest)) in
+    rapid_first (At q) a (Rapid b ∷ Feed p ∷ Feed p ∷ rest) (Rapid b ∷ Feed p ∷ rest) (next q) (next a)
+
+-- the one layer over one stroke of no length
+layer_is_plunge : (job : Job) (step : StepJob) (centre : Pt) (above : ℤ) (all : List Move)
+    → AreLayerMoves job step (record { from = centre; to = centre } ∷ []) above (tip_floor step ∷ []) all
+    → all ≡ approach job.sec centre above (tip_floor step) ++ Feed (over centre (tip_floor step)) ∷ lift job.sec centre (tip_floor step) step.body.e
+layer_is_plunge job step centre above all (layer, none, (rest, is_rest, is_layer), is_none, is) =
+    is ∙ (λ i. (is_layer ∙ ap (λ (ms : List Move). approach job.sec centre above (tip_floor step) ++ ms) is_rest) i ++ is_none i) ∙ append-nil _
+
+cut_is_plunge : (job : Job) (step : StepJob) (centre : Pt) (above : ℤ) (tip : Tip) (moves : List Move) → step.way ≡ way.Drill
+    → IsCutInLayers job step (record { from = centre; to = centre } ∷ []) above tip moves → moves ≡ made tip (plunge job step centre above)
+cut_is_plunge job step centre above tip moves drills cut =
+    let one : cut.tips ≡ tip_floor step ∷ [] = subst (λ (w : Way). layers_by step w above cut.tips) drills cut.layers in
+    let all = layer_is_plunge job step centre above cut.all
+    (subst (λ (ts : List ℤ). AreLayerMoves job step (record { from = centre; to = centre } ∷ []) above ts cut.all) one cut.all_are) in
+    cut.moves_are ∙ ap (λ (ms : List Move). made tip ms) all ∙ feed_twice tip _ _ _ (lift job.sec centre (tip_floor step) step.body.e)
+
+plunges_at : (job : Job) (step : StepJob) (centre : Pt) (d : ℕ) (passes : List Pass) (tip : Tip) (moves : List Move) (above : ℤ)
+    → step.way ≡ way.Drill → step.outline.shape ≡ Circle centre d → IsHighest job step passes above → tip_floor step <ℤ above → OpensSome job step
+    → IsStepPlan job step passes tip moves → moves ≡ made tip (plunge job step centre above)
+plunges_at job step centre d passes tip moves above drills has highest high opens p =
+    let stroke : Stroke = record { from = centre; to = centre } in
+    let one : strokes_by job step way.Drill (stroke ∷ []) = inl (opens, sym (ap (λ (s : Shape). strokes_at_centre s) has)) in
+    ⊎_elim
+    (λ (clear, none). absurd (has_something step stroke [] above high clear))
+    (λ cut. cut_is_plunge job step centre above tip moves drills cut)
+    (moves_by job step passes tip moves (stroke ∷ []) above p highest (by_its_way job step way.Drill (stroke ∷ []) drills one))
+
+pub drills_plunge : DrillsPlunge
+drills_plunge = (plunges_at, record { steps = refl; moves = (hole_plan, tt) })
+
+-- the drill of the examples, where it moves
+plunges : (job : Job) (step : StepJob) (centre : Pt) (passes : List Pass) (tip : Tip) (moves : List Move) → step.way ≡ way.Drill
+    → ((strokes : List Stroke) → AreDrillStrokes job step strokes → (strokes ≡ record { from = centre; to = centre } ∷ []) ⊎ (strokes ≡ []))
+    → moves ≢ [] → IsStepPlan job step passes tip moves → (above : ℤ) × (moves ≡ made tip (plunge job step centre above))
+plunges job step centre passes tip moves drills one moved p =
+    let are : AreDrillStrokes job step p.strokes = from_its_way job step way.Drill p.strokes drills p.strokes_are in
+    ⊎_elim
+    (λ (clear, none). absurd (moved none))
+    (λ cut.
+    ⊎_elim
+    (λ is. (p.above, cut_is_plunge job step centre p.above tip moves drills (subst (λ (ss : List Stroke). IsCutInLayers job step ss p.above tip moves) is cut)))
+    (λ no_stroke. absurd (cut.some no_stroke))
+    (one p.strokes are)) p.moves_are
+
+at_its_centre : (job : Job) (strokes : List Stroke) → AreDrillStrokes job drill strokes → (strokes ≡ record { from = at (pos 10000) (pos 10000); to = at (pos 10000) (pos 10000) } ∷ []) ⊎ (strokes ≡ [])
+at_its_centre job strokes (inl (opens, is)) = inl is
+at_its_centre job strokes (inr (none, is)) = inr is
+
+at_the_same_centre : (job : Job) (strokes : List Stroke) → AreDrillStrokes job with_other_tool strokes → (strokes ≡ record { from = at (pos 10000) (pos 10000); to = at (pos 10000) (pos 10000) } ∷ []) ⊎ (strokes ≡ [])
+at_the_same_centre job strokes (inl (opens, is)) = inl is
+at_the_same_centre job strokes (inr (none, is)) = inr is
 
 begins_after : (job : Job) (first : Move) (some others : List Move) → others ≢ []
     → ArePlans job [] None Unknown ((drill, first ∷ some) ∷ (with_other_tool, []) ∷ (drill, others) ∷ [])
     → PlungesFrom job drill (tip_after_moves (Height job.sec) (first ∷ some)) others
 begins_after job first some [] moved plans = absurd (moved refl)
-begins_after job first some (move ∷ moves) moved plans = plunges job drill _ _ _ (move ∷ moves) moved plans.1.1.0
+begins_after job first some (move ∷ moves) moved plans = plunges job drill (at (pos 10000) (pos 10000)) _ _ (move ∷ moves) refl (at_its_centre job) moved plans.1.1.0
 
 begins_anew : (job : Job) (first : Move) (some others : List Move) → others ≢ []
     → ArePlans job [] None Unknown ((drill, first ∷ some) ∷ (with_other_tool, others) ∷ [])
     → PlungesFrom job with_other_tool (Height job.sec) others
 begins_anew job first some [] moved plans = absurd (moved refl)
-begins_anew job first some (move ∷ moves) moved plans = plunges job with_other_tool _ _ _ (move ∷ moves) moved plans.1.0
+begins_anew job first some (move ∷ moves) moved plans = plunges job with_other_tool (at (pos 10000) (pos 10000)) _ _ (move ∷ moves) refl (at_the_same_centre job) moved plans.1.0
 
 pub steps_begin_at_the_tip : StepsBeginAtTheTip
 steps_begin_at_the_tip job first some others moved = (begins_after job first some others moved, begins_anew job first some others moved)

@@ -1,18 +1,20 @@
 -- The plan of a job, step by step.
-use Rattle.std.proofs.Common.{ℕ, ◌≡◌, true, false, Option, Some, None, List, [], ◌∷◌, ◌++◌, refl, sym, ap, subst, ◌∙◌, if◌then◌else◌}
+use Rattle.std.proofs.Common.{ℕ, ◌≡◌, Option, Some, List, [], ◌∷◌, ◌++◌, refl, sym, subst, ◌∙◌}
 use Rattle.std.specs.Prelude.{Contains}
 use Rattle.sn_geom.specs.declared.tip.Tip.{Tip}
-use Rattle.sn_geom.specs.declared.tip.Tip.TheVariants.{Unknown, Height, At}
 use Rattle.sn_outline.specs.Job.{Job}
 use Rattle.sn_outline.specs.JobRule.{IsJob}
 use Rattle.sn_outline.specs.declared.job.StepJob.{StepJob}
 use Rattle.sn_raster.specs.Grid.{Grid}
 use Rattle.sn_raster.specs.Heights.{Pass, StandsFor}
 use Rattle.sn_link.specs.declared.moves.Move.{Move}
+use Rattle.sn_open.specs.declared.stroke.Stroke.{Stroke}
 use Rattle.sn_link.specs.declared.planner.Progress.{Progress}
+use Rattle.sn_link.specs.declared.step_plan.Planned.{Planned}
+use Rattle.sn_link.specs.Counts.{AreCounts, IsRemoved, strokes_in}
 use Rattle.sn_link.specs.Moves.{AreStraight, is_in_spindle, tip_for, tool_after, tip_after_moves, tip_after_step}
 use Rattle.sn_link.specs.Plan.{IsStepPlan, passes_by}
-use Rattle.sn_link.specs.Planner.{ArePlanesOver, IsAfter}
+use Rattle.sn_link.specs.Planner.{ArePlanesOver, IsAfter, IsPlannedFrom}
 use Rattle.sn_link.specs.Safe.{IsAtSecurity}
 use Rattle.sn_link.proofs.MovesLemmas.{by_test}
 use Rattle.sn_link.specs.SafeLaws.{IsPlanned, PlannedMovesAreStraight, PlannedMovesEndAbove}
@@ -67,3 +69,19 @@ cut_straight straight g job rule step tip moves cut before executed tip_is same 
       planned = plan passes at_first;
     } in
     rw same (straight job step passes tip moves planned_there)
+
+-- what is planned along strokes from a place, with their number, is planned from the tip there
+pub planned_from : (job : Job) (step : StepJob) (passes : List Pass) (at tip : Tip) (planned : Planned) (strokes : List Stroke) (moves : List Move) (same : List Stroke) (count : ℕ)
+    → at ≡ tip → moves ≡ planned.moves → same ≡ strokes → count ≡ strokes_in moves same
+    → IsStepPlan job step passes at planned.moves → AreCounts job step passes planned.moves (strokes_in planned.moves strokes) planned.layers planned.lifts
+    → IsPlannedFrom job step passes tip planned count
+planned_from job step passes at tip planned strokes moves same count there moves_are strokes_are count_is plan counts = record {
+  plan = subst (λ t. IsStepPlan job step passes t planned.moves) there plan;
+  counts = subst (λ n. AreCounts job step passes planned.moves n planned.layers planned.lifts)
+      (sym (count_is ∙ (λ i. strokes_in (moves_are i) (strokes_are i)))) counts;
+}
+
+pub removed_as : (job : Job) (step : StepJob) (passes : List Pass) (at tip : Tip) (moves cut : List Move) (cells : ℕ) → at ≡ tip → cut ≡ moves
+    → IsRemoved job step passes at cut cells → IsRemoved job step passes tip moves cells
+removed_as job step passes at tip moves cut cells there same removed =
+    subst (λ t. IsRemoved job step passes t moves cells) there (subst (λ ms. IsRemoved job step passes at ms cells) same removed)

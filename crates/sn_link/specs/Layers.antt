@@ -1,16 +1,17 @@
--- MEANING: the strokes of a step that clears its feature, its layers, and the moves of a layer and between its strokes (this
--- project's own).
+-- MEANING: the strokes of a step, its layers, and the moves of a layer and between its strokes (this project's own).
 use Rattle.std.specs.Prelude.{◌≡◌, ◌↔◌, ◌⊎◌, ℕ, ℤ, pos, ◌+ℤ◌, ◌-ℤ◌, ◌≤ℤ◌, ◌<ℤ◌, List, [], ◌∷◌, ◌++◌}
 use Rattle.sn_geom.specs.declared.units.Pt.{Pt}
 use Rattle.sn_geom.specs.Sweep.{Near}
-use Rattle.sn_outline.specs.Job.{Job}
+use Rattle.sn_outline.specs.Job.{Job, tip_floor}
 use Rattle.sn_outline.specs.declared.job.StepJob.{StepJob}
+use Rattle.sn_outline.specs.declared.job.Way.TheVariants as way
 use Rattle.sn_raster.specs.Grid.{Node, place, IsGridOf}
 use Rattle.sn_raster.specs.Plane.{Plane, Has}
 use Rattle.sn_open.specs.Planes.{AreCentres}
 use Rattle.sn_open.specs.Region.{InAllowed, IsOpening, IsRequiredNode}
 use Rattle.sn_open.specs.declared.stroke.Stroke.{Stroke}
 use Rattle.sn_clear.specs.Strokes.{clearing_strokes}
+use Rattle.sn_fit.specs.Fit.{strokes_of_trail, AreDrillStrokes}
 use Rattle.sn_link.specs.declared.moves.Move.{Move}
 use Rattle.sn_link.specs.declared.moves.Move.TheVariants.{Feed}
 use Rattle.sn_link.specs.Moves.{over, approach, lift}
@@ -30,6 +31,14 @@ pub record IsClearing (job : Job) (step : StepJob) (strokes : List Stroke) : Typ
   pub are_targets : AreTargets targets job step
   pub strokes_are : strokes ≡ clearing_strokes step centres.grid centres targets
 
+-- the strokes of a step by its way
+abbrev pub AreStrokes : Job → StepJob → List Stroke → Type 0
+AreStrokes job step strokes = elim step.way [
+  | way.Clear ↦ IsClearing job step strokes
+  | way.Trail ↦ strokes ≡ strokes_of_trail step.outline.shape
+  | way.Drill ↦ AreDrillStrokes job step strokes
+]
+
 -- Layers.
 
 -- the tips of the layers: an axial depth under the height above, and each an axial depth under the one before, while they
@@ -38,6 +47,14 @@ abbrev pub AreLayers : ℕ → ℤ → ℤ → List ℤ → Type 0
 AreLayers axial floor above [] = ⊥
 AreLayers axial floor above (tip ∷ []) = (tip ≡ floor) × ((above -ℤ pos axial) ≤ℤ floor)
 AreLayers axial floor above (tip ∷ next ∷ tips) = (tip ≡ above -ℤ pos axial) × (floor <ℤ tip) × AreLayers axial floor tip (next ∷ tips)
+
+-- the tips of the layers of a step from a height down: a drill goes down to the floor at once
+abbrev pub AreStepLayers : StepJob → ℤ → List ℤ → Type 0
+AreStepLayers step above tips = elim step.way [
+  | way.Clear ↦ AreLayers step.axial (tip_floor step) above tips
+  | way.Trail ↦ AreLayers step.axial (tip_floor step) above tips
+  | way.Drill ↦ tips ≡ tip_floor step ∷ []
+]
 
 -- Links.
 

@@ -1,5 +1,6 @@
-pub mod Clearing
+pub mod Counts
 pub mod Examples
+pub mod Layering
 pub mod Layers
 pub mod Moves
 pub mod MovesLaws

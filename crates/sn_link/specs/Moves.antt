@@ -81,6 +81,11 @@ is_in_spindle (Some tool) k = tool == k
 abbrev pub tip_for : Job → Option ℕ → Tip → StepJob → Tip
 tip_for job tool tip step = if is_in_spindle tool step.tool then tip else Height job.sec
 
+-- the tip at a point where one is given, and else at the security height
+abbrev pub tip_at : Job → Option Pt3 → Tip
+tip_at job None = Height job.sec
+tip_at job (Some p) = At p
+
 -- the tool in the spindle, and the tip, after a step with its moves: a step without moves leaves them as they are
 abbrev pub tool_after : Option ℕ → StepJob → List Move → Option ℕ
 tool_after tool step [] = tool

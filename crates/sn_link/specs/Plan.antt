@@ -1,6 +1,5 @@
 -- MEANING: the moves that a job is cut with (this project's own).
 use Rattle.std.specs.Prelude.{◌≡◌, ◌≢◌, ℕ, ◌⊎◌, ℤ, pos, ◌+ℤ◌, ◌≤ℤ◌, ◌<ℤ◌, List, [], ◌∷◌, ◌++◌, map, Option, Some, None}
-use Rattle.sn_geom.specs.declared.units.Pt.{Pt}
 use Rattle.sn_geom.specs.declared.tip.Tip.{Tip}
 use Rattle.sn_geom.specs.declared.tip.Tip.TheVariants.{Unknown, Height, At}
 use Rattle.sn_geom.specs.Tip.{tip_after}
@@ -8,77 +7,40 @@ use Rattle.sn_geom.specs.declared.units.Body.{Body}
 use Rattle.sn_geom.specs.declared.units.Cell.{Cell}
 use Rattle.sn_outline.specs.Job.{Job, tip_floor}
 use Rattle.sn_outline.specs.declared.job.StepJob.{StepJob}
-use Rattle.sn_outline.specs.declared.outline.Shape.{Shape}
-use Rattle.sn_outline.specs.declared.outline.Shape.TheVariants.{Rect, Circle, Polygon, Trail}
-use Rattle.sn_outline.specs.declared.job.Way.{Way}
-use Rattle.sn_outline.specs.declared.job.Way.TheVariants as way
-use Rattle.sn_raster.specs.Grid.{Node}
 use Rattle.sn_raster.specs.Heights.{node_of, Pass, IsMaterial}
 use Rattle.sn_link.specs.declared.moves.Move.{Move}
 use Rattle.sn_link.specs.declared.moves.Move.TheVariants.{Rapid, Feed}
-use Rattle.sn_link.specs.Moves.{made, plunge, tip_for, tip_after_moves}
-use Rattle.sn_link.specs.Layers.{IsClearing, AreLayers, AreLayerMoves}
+use Rattle.sn_link.specs.Moves.{made, tip_for, tip_after_moves}
+use Rattle.sn_link.specs.Layers.{AreStrokes, AreStepLayers, AreLayerMoves}
 use Rattle.sn_open.specs.declared.stroke.Stroke.{Stroke}
-use Rattle.sn_open.specs.Region.{InAllowed, IsOpening}
+use Rattle.sn_open.specs.Region.{InAllowed}
 
 -- The height over the allowed raw nodes over which no material is left: the raw bottom where none is.
 pub record IsHighest (job : Job) (step : StepJob) (passes : List Pass) (above : ℤ) : Type 0 where
   pub bounds : (c : Cell) → IsMaterial job passes c → InAllowed job step (node_of c) → c.z <ℤ above
   pub reached : (above ≡ job.low.z) ⊎ ((c : Cell) × IsMaterial job passes c × InAllowed job step (node_of c) × (above ≡ c.z +ℤ pos 1))
 
--- the step has nothing to do: no material is left over its allowed nodes above its tip floor, or it opens no node
-abbrev pub IsIdle : Job → StepJob → ℤ → Type 0
-IsIdle job step above = (above ≤ℤ tip_floor step) ⊎ ((n : Node) → ¬ IsOpening job step n)
-
--- the step has something to do: material is left above its tip floor, and it opens a node
-pub record IsBusy (job : Job) (step : StepJob) (above : ℤ) : Type 0 where
-  pub high : tip_floor step <ℤ above
-  pub node : Node
-  pub opened : IsOpening job step node
-
--- The moves of a drilling step from a tip: none where it has nothing to do, and a plunge where it has.
-pub record IsDrillPlan (job : Job) (step : StepJob) (centre : Pt) (passes : List Pass) (tip : Tip) (moves : List Move) : Type 0 where
-  pub above : ℤ
-  pub highest : IsHighest job step passes above
-  pub moves_are : (IsIdle job step above × (moves ≡ [])) ⊎ (IsBusy job step above × (moves ≡ made tip (plunge job step centre above)))
-
--- a clearing step has nothing to do: no material is left over its allowed nodes above its tip floor, or there is no stroke
+-- the step has nothing to do: no material is left over its allowed nodes above its tip floor, or there is no stroke
 abbrev pub NeedsNoLayer : StepJob → List Stroke → ℤ → Type 0
 NeedsNoLayer step strokes above = (above ≤ℤ tip_floor step) ⊎ (strokes ≡ [])
 
--- The moves of a clearing step that has something to do: those of its layers that are made from a tip.
+-- The moves of a step that has something to do: those of its layers that are made from a tip.
 pub record IsCutInLayers (job : Job) (step : StepJob) (strokes : List Stroke) (above : ℤ) (tip : Tip) (moves : List Move) : Type 0 where
   pub high : tip_floor step <ℤ above
   pub some : strokes ≢ []
   pub tips : List ℤ
-  pub layers : AreLayers step.axial (tip_floor step) above tips
+  pub layers : AreStepLayers step above tips
   pub all : List Move
   pub all_are : AreLayerMoves job step strokes above tips all
   pub moves_are : moves ≡ made tip all
 
--- The moves of a clearing step from a tip.
-pub record IsClearPlan (job : Job) (step : StepJob) (passes : List Pass) (tip : Tip) (moves : List Move) : Type 0 where
+-- The moves of a step from a tip, over the material that the passes leave.
+pub record IsStepPlan (job : Job) (step : StepJob) (passes : List Pass) (tip : Tip) (moves : List Move) : Type 0 where
   pub above : ℤ
   pub highest : IsHighest job step passes above
   pub strokes : List Stroke
-  pub clearing : IsClearing job step strokes
+  pub strokes_are : AreStrokes job step strokes
   pub moves_are : (NeedsNoLayer step strokes above × (moves ≡ [])) ⊎ IsCutInLayers job step strokes above tip moves
-
--- the moves of a step by its way and its shape; steps that follow a trail have no plan yet
-abbrev pub IsPlanBy : Job → StepJob → List Pass → Tip → List Move → Way → Shape → Type 0
-IsPlanBy job step passes tip moves way.Clear shape = IsClearPlan job step passes tip moves
-IsPlanBy job step passes tip moves way.Trail shape = ⊥
-IsPlanBy job step passes tip moves way.Drill (Rect low high) = ⊥
-IsPlanBy job step passes tip moves way.Drill (Circle centre d) = IsDrillPlan job step centre passes tip moves
-IsPlanBy job step passes tip moves way.Drill (Polygon points) = ⊥
-IsPlanBy job step passes tip moves way.Drill (Trail points width) = ⊥
-
--- the step has a plan: it drills or clears
-abbrev pub HasPlan : StepJob → Type 0
-HasPlan step = (step.way ≡ way.Drill) ⊎ (step.way ≡ way.Clear)
-
-abbrev pub IsStepPlan : Job → StepJob → List Pass → Tip → List Move → Type 0
-IsStepPlan job step passes tip moves = IsPlanBy job step passes tip moves step.way step.outline.shape
 
 -- the passes of moves from a tip, each from where the move before it ends
 abbrev pub passes_by : Body → Tip → List Move → List Pass

@@ -1,5 +1,5 @@
 -- MEANING: laws of plans.
-use Rattle.std.specs.Prelude.{◌≡◌, ◌≢◌, ℕ, ◌+◌, ◌≤◌, ◌≤ℤ◌, ◌<ℤ◌, ◌∷◌, ℤ, pos, List, [], Contains, Some, None}
+use Rattle.std.specs.Prelude.{◌≡◌, ◌≢◌, ℕ, ◌+◌, ◌≤◌, ◌<◌, ◌≤ℤ◌, ◌<ℤ◌, ◌∷◌, ℤ, pos, List, [], length, Contains, Some, None}
 use Rattle.sn_geom.specs.declared.units.Pt.{Pt}
 use Rattle.sn_geom.specs.declared.units.Pt3.{Pt3}
 use Rattle.sn_geom.specs.declared.units.Cell.{Cell}
@@ -8,18 +8,21 @@ use Rattle.sn_geom.specs.declared.limits.TheConstants.{GAP}
 use Rattle.sn_outline.specs.Job.{Job, tip_floor}
 use Rattle.sn_outline.specs.JobRule.{IsJob}
 use Rattle.sn_outline.specs.declared.job.StepJob.{StepJob}
+use Rattle.sn_outline.specs.declared.job.Way.TheVariants as way
+use Rattle.sn_outline.specs.declared.outline.Shape.TheVariants.{Circle, Trail}
 use Rattle.sn_raster.specs.Grid.{Node}
 use Rattle.sn_raster.specs.Heights.{node_of, IsRawCell, Pass, IsCutBy, IsMaterial}
 use Rattle.sn_open.specs.Region.{InAllowed, IsOpening, IsRequiredNode}
 use Rattle.sn_open.specs.declared.stroke.Stroke.{Stroke}
+use Rattle.sn_fit.specs.Fit.{strokes_along, OpensSome}
 use Rattle.sn_geom.specs.declared.tip.Tip.{Tip}
 use Rattle.sn_geom.specs.declared.tip.Tip.TheVariants.{Unknown, Height, At}
 use Rattle.sn_link.specs.declared.moves.Move.{Move}
 use Rattle.sn_link.specs.declared.moves.Move.TheVariants.{Rapid, Feed}
-use Rattle.sn_link.specs.Layers.{AreLayers, IsFreeWay, IsLink, IsLayer, AreLayerMoves}
+use Rattle.sn_link.specs.Layers.{AreLayers, AreStrokes, IsFreeWay, IsLink, IsLayer, AreLayerMoves}
 use Rattle.sn_link.specs.Moves.{over, made, plunge, tip_for, tip_after_moves}
-use Rattle.sn_link.specs.Plan.{IsHighest, IsDrillPlan, IsClearPlan, passes_by, ArePlans, IsPlan}
-use Rattle.sn_link.specs.Examples.{boxed, with_other_tool, drill, at}
+use Rattle.sn_link.specs.Plan.{IsHighest, IsCutInLayers, IsStepPlan, passes_by, ArePlans, IsPlan}
+use Rattle.sn_link.specs.Examples.{boxed, plate, with_other_tool, drill, trail, at}
 
 -- the tip of a step is where the last step left it where the step's tool is in the spindle already, and else at the
 -- security height; moves leave it at the end of the last one
@@ -47,13 +50,17 @@ OneHighest = (job : Job) (step : StepJob) (passes : List Pass) (a b : ℤ) → I
 abbrev pub OnePlan : Type 0
 OnePlan = (job : Job) (some others : List (StepJob × List Move)) → IsPlan job some → IsPlan job others → some ≡ others
 
--- a drilling step makes no moves where no material is left over its floor, or where it opens no node
+-- a step makes no moves where no material is left over its allowed nodes from its tip floor up, and none where it has no
+-- stroke: where it drills and opens no node, where it clears and opens no node that is required for its feature, or where it
+-- follows a trail of fewer than two points
 abbrev pub NothingToCutNoMoves : Type 0
 NothingToCutNoMoves =
-    (job : Job) (step : StepJob) (centre : Pt) (passes : List Pass) (tip : Tip) (moves : List Move)
-    → IsDrillPlan job step centre passes tip moves
+    (job : Job) (step : StepJob) (passes : List Pass) (tip : Tip) (moves : List Move) → IsStepPlan job step passes tip moves
     → (job.low.z ≤ℤ tip_floor step → ((c : Cell) → IsMaterial job passes c → InAllowed job step (node_of c) → c.z <ℤ tip_floor step) → moves ≡ [])
-    × (((n : Node) → ¬ IsOpening job step n) → moves ≡ [])
+    × (AreStrokes job step [] → moves ≡ [])
+    × (step.way ≡ way.Drill → ((n : Node) → ¬ IsOpening job step n) → moves ≡ [])
+    × (IsJob job → step.way ≡ way.Clear → ((n : Node) → IsRequiredNode job step.feature n → ¬ IsOpening job step n) → moves ≡ [])
+    × ((points : List Pt) (width : ℕ) → step.way ≡ way.Trail → step.outline.shape ≡ Trail points width → length points < 2 → moves ≡ [])
 
 -- a step that is repeated makes no moves where those of the first time cut all raw cells over its allowed nodes from its
 -- floor up
@@ -77,7 +84,7 @@ StepsBeginAtTheTip =
     → PlungesFrom job drill (tip_after_moves (Height job.sec) (first ∷ some)) others)
     × (ArePlans job [] None Unknown ((drill, first ∷ some) ∷ (with_other_tool, others) ∷ []) → PlungesFrom job with_other_tool (Height job.sec) others)
 
--- Clearing.
+-- Layers.
 
 -- layers of 2 mm down to the height 4 mm: the last is at the floor, and not deeper than the others
 abbrev pub LayersAreAnAxialDepthApart : Type 0
@@ -119,10 +126,33 @@ LaterLayersBeginWhereTheLastCut =
     ∷ Rapid (over s.from (pos 20000)) ∷ Rapid (over s.from (pos (7800 + GAP))) ∷ Feed (over s.from (pos 4000)) ∷ Feed (over s.to (pos 4000))
     ∷ Feed (over s.to (pos 4300)) ∷ Rapid (over s.to (pos 20000)) ∷ []
 
--- a clearing step makes no moves where no material is left over its floor, or where it opens no node that is required for
--- its feature
-abbrev pub NothingToClearNoMoves : Type 0
-NothingToClearNoMoves =
-    (job : Job) (step : StepJob) (passes : List Pass) (tip : Tip) (moves : List Move) → IsJob job → IsClearPlan job step passes tip moves
-    → (job.low.z ≤ℤ tip_floor step → ((c : Cell) → IsMaterial job passes c → InAllowed job step (node_of c) → c.z <ℤ tip_floor step) → moves ≡ [])
-    × (((n : Node) → IsRequiredNode job step.feature n → ¬ IsOpening job step n) → moves ≡ [])
+-- Drilling.
+
+-- a drilling step that has something to do plunges at the centre of its outline; and the plan of a job that drills one hole
+abbrev pub DrillsPlunge : Type 0
+DrillsPlunge =
+    ((job : Job) (step : StepJob) (centre : Pt) (d : ℕ) (passes : List Pass) (tip : Tip) (moves : List Move) (above : ℤ)
+    → step.way ≡ way.Drill → step.outline.shape ≡ Circle centre d → IsHighest job step passes above → tip_floor step <ℤ above → OpensSome job step
+    → IsStepPlan job step passes tip moves → moves ≡ made tip (plunge job step centre above))
+    × (let p = at (pos 10000) (pos 10000) in
+    IsPlan (plate drill)
+    ((drill, Rapid (over p (pos 20000)) ∷ Rapid (over p (pos (10000 + GAP))) ∷ Feed (over p (pos 4000)) ∷ Feed (over p (pos 4300)) ∷ Rapid (over p (pos 20000)) ∷ []) ∷ []))
+
+-- Trails.
+
+-- a step that follows a trail cuts along its segments in layers; and the plan of a job that follows a trail of three points in
+-- one layer: down at the first point, along the two segments, and up at the last
+abbrev pub TrailsAreFollowedInLayers : Type 0
+TrailsAreFollowedInLayers =
+    ((job : Job) (step : StepJob) (points : List Pt) (width : ℕ) (passes : List Pass) (tip : Tip) (moves : List Move) (above : ℤ)
+    → step.way ≡ way.Trail → step.outline.shape ≡ Trail points width → IsHighest job step passes above → tip_floor step <ℤ above → 2 ≤ length points
+    → IsStepPlan job step passes tip moves → IsCutInLayers job step (strokes_along points) above tip moves)
+    × (let a = at (pos 10000) (pos 10000) in
+    let b = at (pos 30000) (pos 10000) in
+    let c = at (pos 30000) (pos 25000) in
+    IsPlan (plate trail)
+    ((
+      trail,
+      Rapid (over a (pos 20000)) ∷ Rapid (over a (pos (10000 + GAP))) ∷ Feed (over a (pos 8000)) ∷ Feed (over b (pos 8000)) ∷ Feed (over c (pos 8000))
+          ∷ Feed (over c (pos 8300)) ∷ Rapid (over c (pos 20000)) ∷ [],
+    ) ∷ []))

@@ -1,5 +1,6 @@
 -- PRIVATE: what is kept while the steps of a job are planned one after the other.
-use Rattle.std.specs.Prelude.{◌≡◌, List}
+use Rattle.std.specs.Prelude.{◌≡◌, ℕ, List}
+use Rattle.sn_geom.specs.declared.tip.Tip.{Tip}
 use Rattle.sn_outline.specs.Job.{Job}
 use Rattle.sn_outline.specs.declared.job.StepJob.{StepJob}
 use Rattle.sn_outline.specs.declared.job.Way.TheVariants as way
@@ -8,8 +9,11 @@ use Rattle.sn_raster.specs.Heights.{Pass, StandsFor}
 use Rattle.sn_open.specs.Planes.{AreAllowed, AreCentres, IsOpeningPlane}
 use Rattle.sn_link.specs.declared.planes.Planes.{Planes}
 use Rattle.sn_link.specs.declared.planner.Progress.{Progress}
+use Rattle.sn_link.specs.declared.step_plan.Planned.{Planned}
+use Rattle.sn_link.specs.Counts.{AreCounts}
 use Rattle.sn_link.specs.Layers.{AreTargets}
 use Rattle.sn_link.specs.Moves.{tip_for}
+use Rattle.sn_link.specs.Plan.{IsStepPlan}
 use Rattle.sn_link.specs.Safe.{IsAtSecurity}
 
 -- the planes are over a grid
@@ -34,3 +38,8 @@ pub record IsAfter (g : Grid) (job : Job) (passes : List Pass) (progress : Progr
   pub planes : ArePlanesOver g progress.planes
   pub material : StandsFor progress.heights job passes
   pub above : (step : StepJob) → IsAtSecurity job (tip_for job progress.tool progress.tip step)
+
+-- what is planned of a step from a tip, with the number of strokes in a layer
+pub record IsPlannedFrom (job : Job) (step : StepJob) (passes : List Pass) (tip : Tip) (planned : Planned) (strokes : ℕ) : Type 0 where
+  pub plan : IsStepPlan job step passes tip planned.moves
+  pub counts : AreCounts job step passes planned.moves strokes planned.layers planned.lifts

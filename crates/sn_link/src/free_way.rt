@@ -8,11 +8,12 @@ ghost use Rattle.sn_raster.specs.Plane.{Has};
 ghost use Rattle.sn_open.specs.Planes.{AreAllowed, IsGridWith};
 ghost use Rattle.sn_open.specs.Window.{columns, rows, node_at};
 ghost use Rattle.sn_link.specs.Layers.{IsFreeWay};
-ghost use Rattle.sn_link.specs.Clearing.{IsLacking};
+ghost use Rattle.sn_link.specs.Layering.{IsLacking};
 
+use crate::span::{Span, columns_near, rows_near};
 use sn_geom::{Pt, REACH, Seg, Um, near};
 use sn_open::laws::outside;
-use sn_open::{Allowed, columns_of, has_at, rows_of};
+use sn_open::{Allowed, has_at};
 use sn_outline::StepJob;
 use sn_raster::{Bits, Grid};
 
@@ -34,23 +35,27 @@ fn lacks_any(plane: &Bits, d: u32, way: &Seg) -> bool
     ensures no { ¬ IsTrue result → (n : Node) → ¬ IsLacking plane.now d way.now n }
 {
     let g = plane.grid();
-    for row in 0..rows_of(&g) {
-        if lacks_any_in(plane, d, way, &g, row) {
+    let rows = rows_near(&g, d, way);
+    let columns = columns_near(&g, d, way);
+    for row in rows.from..rows.to {
+        if lacks_any_in(plane, d, way, &g, columns, row) {
             return true;
         }
     }
     false
 }
 
-/// Whether the plane lacks a node of the row within half of `d` of the segment.
-fn lacks_any_in(plane: &Bits, d: u32, way: &Seg, g: &Grid, row: u32) -> bool
+/// Whether the plane lacks a node of the row, in the columns of the span, within half of `d` of the segment.
+fn lacks_any_in(plane: &Bits, d: u32, way: &Seg, g: &Grid, span: Span, row: u32) -> bool
     requires diameter { d ≤ REACH }
     requires grid { plane.now.grid ≡ g.now }
+    requires span { span.to ≤ columns g.now }
     requires row { row < rows g.now }
     ensures yes { IsTrue result → (n : Node) × IsLacking plane.now d way.now n }
-    ensures no { ¬ IsTrue result → (column : ℕ) → column < columns g.now → ¬ IsLacking plane.now d way.now (node_at g.now column row) }
+    ensures no { ¬ IsTrue result → (column : ℕ) → span.from ≤ column → column < span.to
+        → ¬ IsLacking plane.now d way.now (node_at g.now column row) }
 {
-    for column in 0..columns_of(g) {
+    for column in span.from..span.to {
         if lacks_at(plane, d, way, g, column, row) {
             return true;
         }

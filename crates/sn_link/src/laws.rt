@@ -1,7 +1,7 @@
 //! Laws of the definitions. Each function's contract states laws, and the function does nothing.
 ghost use Rattle.sn_link.specs.MovesLaws.{PlungesGoDownAndUp, MovesThatStayAreLeftOut};
-ghost use Rattle.sn_link.specs.PlanLaws.{TipsAreKept, OnlyFeedsOfMovesCut, OneHighest, OnePlan, NothingToCutNoMoves, RepeatedStepsRest, StepsBeginAtTheTip};
-ghost use Rattle.sn_link.specs.PlanLaws.{LayersAreAnAxialDepthApart, LayersComeToTheFloor, OneListOfLayers, LinksAreFedOrLifted, LayersGoAlongTheirStrokes, LaterLayersBeginWhereTheLastCut, NothingToClearNoMoves};
+ghost use Rattle.sn_link.specs.PlanLaws.{TipsAreKept, OnlyFeedsOfMovesCut, OneHighest, OnePlan, NothingToCutNoMoves, RepeatedStepsRest, StepsBeginAtTheTip, DrillsPlunge};
+ghost use Rattle.sn_link.specs.PlanLaws.{LayersAreAnAxialDepthApart, LayersComeToTheFloor, OneListOfLayers, LinksAreFedOrLifted, LayersGoAlongTheirStrokes, LaterLayersBeginWhereTheLastCut, TrailsAreFollowedInLayers};
 ghost use Rattle.sn_link.specs.SafeLaws.{PlannedMovesAreSafe, PlannedMovesEndAbove, PlannedMovesCutTheTargets, PlannedMovesAreStraight};
 
 use sn_open::laws::outside;
@@ -21,9 +21,10 @@ pub fn plans()
     ensures no_moves { NothingToCutNoMoves }
     ensures repeated { RepeatedStepsRest }
     ensures begin_at_the_tip { StepsBeginAtTheTip }
+    ensures drills { DrillsPlunge }
 {}
 
-/// Laws of the layers of a clearing step.
+/// Laws of the layers of a step.
 pub fn layers()
     ensures depths { LayersAreAnAxialDepthApart }
     ensures come_to_the_floor { LayersComeToTheFloor }
@@ -31,7 +32,7 @@ pub fn layers()
     ensures links { LinksAreFedOrLifted }
     ensures along { LayersGoAlongTheirStrokes }
     ensures later { LaterLayersBeginWhereTheLastCut }
-    ensures no_moves { NothingToClearNoMoves }
+    ensures trails { TrailsAreFollowedInLayers }
 {}
 
 /// What the moves of each planned step keep.

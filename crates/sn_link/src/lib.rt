@@ -3,17 +3,19 @@
 //! Lengths are whole micrometres.
 #![tactic(auto)]
 
-mod clearing;
-mod drilling;
 mod free_way;
 pub mod laws;
+mod layers;
 mod material;
 mod moves;
 mod planes;
 mod planner;
+mod span;
+mod step_plan;
 
 pub use moves::{Move, Moves, over};
-pub use planner::{Plans, plan};
+pub use planner::{PlannedStep, Plans, plan};
+pub use step_plan::{Planned, plan_step};
 
 #[cfg(test)]
 mod tests;

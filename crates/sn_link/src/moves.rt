@@ -1,8 +1,8 @@
 //! Moves of the tip, and those that bring a tool down to a layer and up again.
-ghost use Rattle.std.specs.Prelude.{◌≡◌, ◌≤◌, ◌++◌, IfOk, pos, ◌+ℤ◌};
+ghost use Rattle.std.specs.Prelude.{◌≡◌, ◌≤◌, IfOk, pos, ◌+ℤ◌};
 ghost use Rattle.std.specs.Int.{int_min};
-ghost use Rattle.sn_link.specs.Moves.{approach, end_of, lift, made, over, same_place, stands_at};
-ghost use Rattle.sn_link.specs.Safe.{AreWithin};
+ghost use Rattle.sn_link.specs.Layering.{is_feed};
+ghost use Rattle.sn_link.specs.Moves.{end_of, made, over, same_place, stands_at};
 
 use sn_geom::{GAP, Memory, Pt, Pt3, REACH, Tip, Um};
 use sqlite_items::Items;
@@ -25,6 +25,16 @@ impl Move {
     {
         match self {
             Move::Rapid(end) | Move::Feed(end) => end,
+        }
+    }
+
+    /// Whether the move is made at feed.
+    pub(crate) fn is_feed(self) -> bool
+        ensures { result ≡ is_feed self }
+    {
+        match self {
+            Move::Rapid(_) => false,
+            Move::Feed(_) => true,
         }
     }
 }
@@ -59,22 +69,6 @@ fn is_same(a: &Pt3, b: &Pt3) -> bool
     ensures { result ≡ same_place a.now b.now }
 {
     a.x == b.x && a.y == b.y && a.z == b.z
-}
-
-/// The moves of a plunge at a place, from and to the security height, down to the height `low` of the tip: no material
-/// is left there over the height `above`, and the point of the tool has the length `e`.
-pub(crate) fn plunge(sec: Um, place: &Pt, above: Um, low: Um, e: u32) -> [Move; 5]
-    requires { e ≤ REACH }
-    ensures moves { result ≡ approach sec place.now above low ++ lift sec place.now low e }
-    ensures within { AreWithin result }
-{
-    [
-        Move::Rapid(over(place, sec)),
-        Move::Rapid(over(place, feed_start(sec, above))),
-        Move::Feed(over(place, low)),
-        Move::Feed(over(place, feed_end(low, e))),
-        Move::Rapid(over(place, sec)),
-    ]
 }
 
 /// The height where the feed begins.

@@ -1,13 +1,16 @@
 //! The planes of a step.
 ghost use Rattle.std.specs.Prelude.{◌≡◌, IfOk, Contains};
-ghost use Rattle.sn_outline.specs.declared.job.Way.TheVariants as way;
+ghost use Rattle.sn_outline.specs.Job.{Job as JobContent};
+ghost use Rattle.sn_outline.specs.JobRule.{IsProper};
 ghost use Rattle.sn_raster.specs.Grid.{IsGridOf};
 ghost use Rattle.sn_open.specs.Planes.{AreCentres, IsGridWith, IsOpeningPlane};
-ghost use Rattle.sn_link.specs.Layers.{AreTargets};
+ghost use Rattle.sn_link.specs.Layers.{AreStrokes, AreTargets};
 ghost use Rattle.sn_link.specs.Planner.{ArePlanesOf, ArePlanesOver};
 
+use sn_clear::strokes;
+use sn_fit::{drill_strokes, trail_strokes};
 use sn_geom::Memory;
-use sn_open::{Allowed, Centres, Opening, Required};
+use sn_open::{Allowed, Centres, Opening, Required, Strokes};
 use sn_outline::{Job, StepJob, Way};
 use sn_raster::{Bits, Grid};
 use std::alloc::Global;
@@ -61,6 +64,28 @@ impl Planes {
             Way::Clear => self.refill_targets(j, g, step),
             Way::Trail => {}
             Way::Drill => {}
+        }
+    }
+
+    /// The strokes of a step whose planes these are.
+    pub(crate) fn strokes(&self, alloc: Global, g: &Grid, step: &StepJob) -> Result<Strokes, Memory>
+        requires proper { IsProper step.now }
+        requires over { ArePlanesOver g.now self.now }
+        ensures { IfOk result (λ strokes. (job : JobContent) → ArePlanesOf self.now job step.now → AreStrokes job step.now strokes) }
+    {
+        match step.way {
+            Way::Clear => {
+                let strokes = strokes(alloc, g, step, &self.centres, &self.targets)?;
+                Ok(strokes)
+            }
+            Way::Trail => {
+                let strokes = trail_strokes(alloc, step)?;
+                Ok(strokes)
+            }
+            Way::Drill => {
+                let strokes = drill_strokes(alloc, step, &self.opening)?;
+                Ok(strokes)
+            }
         }
     }
 

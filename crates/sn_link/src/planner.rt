@@ -1,39 +1,53 @@
 //! The plan of a job.
-ghost use Rattle.std.specs.Prelude.{◌≡◌, ◌++◌, IfOk, List, [], Contains, length};
+ghost use Rattle.std.specs.Prelude.{◌≡◌, ◌++◌, IfOk, List, [], Some, Contains, length, slice_get};
 ghost use Rattle.std.specs.List.{All};
 ghost use Rattle.sn_geom.specs.declared.tip.Tip.TheVariants.{Unknown};
 ghost use Rattle.sn_outline.specs.Job.{Job as JobContent};
 ghost use Rattle.sn_outline.specs.JobRule.{IsProper};
 ghost use Rattle.sn_raster.specs.Grid.{IsGridOf};
 ghost use Rattle.sn_raster.specs.Heights.{Pass, StandsFor};
-ghost use Rattle.sn_open.specs.Planes.{AreAllowed, IsGridWith};
-ghost use Rattle.sn_link.specs.Moves.{AreStraight, tip_after_step, tip_for, tool_after};
-ghost use Rattle.sn_link.specs.Plan.{HasPlan, IsHighest, IsPlan, IsStepPlan, passes_by, with_moves};
-ghost use Rattle.sn_link.specs.Planner.{ArePlanesOf, ArePlanesOver, IsAfter};
-ghost use Rattle.sn_link.specs.Safe.{AreWithin};
+ghost use Rattle.sn_link.specs.Counts.{AreCountedPlans, AreCounts, IsCountedStep, IsRemoved, moves_of, strokes_in};
+ghost use Rattle.sn_link.specs.Moves.{AreStraight, tip_after_step, tip_at, tip_for, tool_after};
+ghost use Rattle.sn_link.specs.Plan.{IsPlan, IsStepPlan, passes_by, with_moves};
+ghost use Rattle.sn_link.specs.Planner.{IsAfter, IsPlannedFrom};
+ghost use Rattle.sn_link.specs.Safe.{AreWithin, IsAtSecurity};
 
-use crate::clearing::clear;
-use crate::drilling::drill;
 use crate::laws::planned_moves;
-use crate::material::{cut_by_moves, highest};
+use crate::material::cut_by_moves;
 use crate::moves::{Move, Moves};
 use crate::planes::Planes;
-use sn_geom::{Memory, Tip, Um};
-use sn_outline::{Job, StepJob, Way};
+use crate::step_plan::{Planned, plan_step, security};
+use sn_geom::{Memory, Pt3, Tip};
+use sn_open::Stroke;
+use sn_outline::{Job, StepJob};
+use sn_raster::height_laws::materials;
 use sn_raster::{Grid, Heights};
 use sqlite_items::Items;
 use std::alloc::Global;
 
-/// The moves of each step of a job, in the order of the steps, seen as a list of lists.
-pub type Plans = Items<Moves>;
+/// The moves of a step of a job, and what is counted of them: all counts are 0 where it has no moves.
+#[derive(Drop)]
+pub struct PlannedStep {
+    pub moves: Moves,
+    /// How many strokes are in a layer.
+    pub strokes: u64,
+    pub layers: u64,
+    /// How often the tool is lifted in all layers.
+    pub lifts: u64,
+    /// How many cells the moves take away.
+    pub cells: u64,
+}
 
-/// The moves of each step of a job of drilling and clearing steps, over the material that the steps before it leave.
+/// What is planned of each step of a job, in the order of the steps, seen as its list.
+pub type Plans = Items<PlannedStep>;
+
+/// The moves of each step of a job, over the material that the steps before it leave, and what is counted of them.
 pub fn plan(alloc: Global, j: &Job, g: &Grid) -> Result<Plans, Memory>
     requires grid { IsGridOf g.now j.now }
-    requires built { All HasPlan j.now.steps }
-    ensures planned { IfOk result (λ plans. IsPlan j.now (with_moves j.now.steps plans)) }
+    ensures planned { IfOk result (λ plans. IsPlan j.now (with_moves j.now.steps (moves_of plans))) }
     ensures each { IfOk result (λ plans. length plans ≡ length j.now.steps) }
-    ensures within { IfOk result (All AreWithin) }
+    ensures within { IfOk result (λ plans. All AreWithin (moves_of plans)) }
+    ensures counts { IfOk result (λ plans. AreCountedPlans j.now [] None Unknown j.now.steps plans) }
 {
     let mut plans = Plans::new(alloc);
     let steps = j.steps();
@@ -41,9 +55,9 @@ pub fn plan(alloc: Global, j: &Job, g: &Grid) -> Result<Plans, Memory>
         return Ok(plans);
     }
     let mut progress = Progress::start(alloc, j, g, &steps[0])?;
-    for step in steps {
-        let moves = progress.plan_step(alloc, j, g, step)?;
-        plans.push(moves)?;
+    for (k, step) in steps.iter().enumerate() {
+        let planned = progress.plan_step(alloc, j, g, k, step)?;
+        plans.push(planned)?;
     }
     Ok(plans)
 }
@@ -79,32 +93,45 @@ impl Progress {
         })
     }
 
-    /// The moves of a step, which then are cut.
+    /// The plan of the step with the index `k`, whose moves then are cut.
     fn plan_step(
         &mut self,
         alloc: Global,
         j: &Job,
         g: &Grid,
+        k: usize,
         step: &StepJob,
-    ) -> Result<Moves, Memory>
+    ) -> Result<PlannedStep, Memory>
         requires grid { IsGridOf g.now j.now }
-        requires executed { Contains j.now.steps step.now }
-        requires built { HasPlan step.now }
+        requires executed { slice_get j.now.steps k ≡ Some step.now }
         requires after { (passes : List Pass) × IsAfter g.now j.now passes self.old }
-        ensures planned { IfOk result (λ moves. (passes : List Pass) → IsAfter g.now j.now passes self.old
-            → IsStepPlan j.now step.now passes (tip_for j.now self.old.tool self.old.tip step.now) moves) }
-        ensures after { IfOk result (λ moves. (passes : List Pass) → IsAfter g.now j.now passes self.old
-            → IsAfter g.now j.now (passes ++ passes_by step.now.body (tip_for j.now self.old.tool self.old.tip step.now) moves) self.new) }
-        ensures tool { IfOk result (λ moves. self.new.tool ≡ tool_after self.old.tool step.now moves) }
-        ensures tip { IfOk result (λ moves. self.new.tip ≡ tip_after_step j.now self.old.tool self.old.tip step.now moves) }
-        ensures within { IfOk result AreWithin }
+        ensures planned { IfOk result (λ planned. (passes : List Pass) → IsAfter g.now j.now passes self.old
+            → IsStepPlan j.now step.now passes (tip_for j.now self.old.tool self.old.tip step.now) planned.moves) }
+        ensures counted { IfOk result (λ planned. (passes : List Pass) → IsAfter g.now j.now passes self.old
+            → IsCountedStep j.now step.now passes (tip_for j.now self.old.tool self.old.tip step.now) planned) }
+        ensures within { IfOk result (λ planned. AreWithin planned.moves) }
+        ensures after { IfOk result (λ planned. (passes : List Pass) → IsAfter g.now j.now passes self.old
+            → IsAfter g.now j.now (passes ++ passes_by step.now.body (tip_for j.now self.old.tool self.old.tip step.now) planned.moves) self.new) }
+        ensures tool { IfOk result (λ planned. self.new.tool ≡ tool_after self.old.tool step.now planned.moves) }
+        ensures tip { IfOk result (λ planned. self.new.tip ≡ tip_after_step j.now self.old.tool self.old.tip step.now planned.moves) }
     {
         j.rule();
         planned_moves();
         let tip = self.tip_for(j, step);
-        let moves = self.moves_from(alloc, j, g, step, &tip)?;
-        self.cut(step, &tip, moves.as_slice());
-        Ok(moves)
+        let (planned, strokes) = self.plan_from(alloc, j, g, k, step, tip)?;
+        let cells = self.cut(step, &tip, planned.moves.as_slice());
+        let Planned {
+            moves,
+            layers,
+            lifts,
+        } = planned;
+        Ok(PlannedStep {
+            moves,
+            strokes,
+            layers,
+            lifts,
+            cells,
+        })
     }
 
     /// The tip before the moves of a step.
@@ -117,91 +144,90 @@ impl Progress {
         Tip::Height(security(j))
     }
 
-    /// The moves of a step from a tip.
-    fn moves_from(
+    /// The moves of the step with the index `k` from a tip at the security height, and how many strokes they go along in a
+    /// layer.
+    fn plan_from(
         &mut self,
         alloc: Global,
         j: &Job,
         g: &Grid,
+        k: usize,
         step: &StepJob,
-        tip: &Tip,
-    ) -> Result<Moves, Memory>
+        tip: Tip,
+    ) -> Result<(Planned, u64), Memory>
         requires grid { IsGridOf g.now j.now }
-        requires executed { Contains j.now.steps step.now }
-        requires built { HasPlan step.now }
+        requires executed { slice_get j.now.steps k ≡ Some step.now }
         requires after { (passes : List Pass) × IsAfter g.now j.now passes self.old }
-        ensures planned { IfOk result (λ moves. (passes : List Pass) → IsAfter g.now j.now passes self.old
-            → IsStepPlan j.now step.now passes tip.now moves) }
-        ensures within { IfOk result AreWithin }
+        requires above { IsAtSecurity j.now tip }
+        ensures planned { IfOk result (λ planned. (passes : List Pass) → IsAfter g.now j.now passes self.old
+            → IsPlannedFrom j.now step.now passes tip planned.0 planned.1) }
+        ensures within { IfOk result (λ planned. AreWithin planned.0.moves) }
         ensures after { (passes : List Pass) → IsAfter g.now j.now passes self.old → IsAfter g.now j.now passes self.new }
         ensures tool { self.new.tool ≡ self.old.tool }
         ensures tip { self.new.tip ≡ self.old.tip }
     {
         j.rule();
         self.planes.refill(j, g, step);
-        let above = highest(&self.heights, &self.planes.allowed);
-        let sec = security(j);
-        let moves = moves_by(alloc, g, sec, step, tip, above, &self.planes)?;
-        Ok(moves)
+        let strokes = self.planes.strokes(alloc, g, step)?;
+        let allowed = &self.planes.allowed;
+        let start = place_of(tip);
+        let planned = plan_step(
+            alloc,
+            j,
+            k,
+            allowed,
+            &self.heights,
+            start,
+            strokes.as_slice(),
+        )?;
+        let count = strokes_in(planned.moves.as_slice(), strokes.as_slice());
+        Ok((planned, count))
     }
 
-    /// Takes away what the moves of a step from a tip surely cut. Moves leave the tool of the step in the spindle, and the
-    /// tip where they end.
-    fn cut(&mut self, step: &StepJob, tip: &Tip, moves: &[Move])
+    /// Takes away what the moves of a step from a tip surely cut, and gives how many cells that are. Moves leave the tool of
+    /// the step in the spindle, and the tip where they end.
+    fn cut(&mut self, step: &StepJob, tip: &Tip, moves: &[Move]) -> u64
         requires proper { IsProper step.now }
         requires straight { AreStraight tip.now moves.now }
+        requires left { (job : JobContent) × (passes : List Pass) × StandsFor self.old.heights job passes }
         ensures planes { self.new.planes ≡ self.old.planes }
         ensures grid { self.new.heights.grid ≡ self.old.heights.grid }
-        ensures material { (job : Job) (passes : List Pass) → StandsFor self.old.heights job passes
+        ensures material { (job : JobContent) (passes : List Pass) → StandsFor self.old.heights job passes
             → StandsFor self.new.heights job (passes ++ passes_by step.now.body tip.now moves.now) }
+        ensures removed { (job : JobContent) (passes : List Pass) → StandsFor self.old.heights job passes
+            → IsRemoved job step.now passes tip.now moves.now result }
         ensures tool { self.new.tool ≡ tool_after self.old.tool step.now moves.now }
-        ensures tip { (job : Job) → tip.now ≡ tip_for job self.old.tool self.old.tip step.now
+        ensures tip { (job : JobContent) → tip.now ≡ tip_for job self.old.tool self.old.tip step.now
             → self.new.tip ≡ tip_after_step job self.old.tool self.old.tip step.now moves.now }
     {
+        materials();
+        let before = self.heights.left();
         if moves.is_empty() {
-            return;
+            return 0;
         }
         self.tip = cut_by_moves(&mut self.heights, &step.body, *tip, moves);
         self.tool = Some(step.tool);
+        before - self.heights.left()
     }
 }
 
-/// The moves of a step by its way, from a tip, over whose allowed nodes no material is left over the height `above`.
-fn moves_by(
-    alloc: Global,
-    g: &Grid,
-    sec: Um,
-    step: &StepJob,
-    tip: &Tip,
-    above: Um,
-    planes: &Planes,
-) -> Result<Moves, Memory>
-    requires executed { IsGridWith g.now step.now }
-    requires proper { IsProper step.now }
-    requires built { HasPlan step.now }
-    requires over { ArePlanesOver g.now planes.now }
-    requires own { (job : JobContent) × (job.sec ≡ sec) × AreAllowed planes.now.allowed job step.now }
-    ensures planned { IfOk result (λ moves. (job : JobContent) (passes : List Pass) → job.sec ≡ sec → ArePlanesOf planes.now job step.now
-        → IsHighest job step.now passes above → IsStepPlan job step.now passes tip.now moves) }
-    ensures within { IfOk result AreWithin }
+/// How many strokes the moves of a step go along in a layer.
+fn strokes_in(moves: &[Move], strokes: &[Stroke]) -> u64
+    ensures { result ≡ strokes_in moves.now strokes.now }
 {
-    match step.way {
-        Way::Drill => {
-            let moves = drill(alloc, sec, step, *tip, above, planes.opening.nodes())?;
-            Ok(moves)
-        }
-        Way::Clear => {
-            let moves = clear(alloc, g, sec, step, *tip, above, planes)?;
-            Ok(moves)
-        }
-        Way::Trail => unreachable!(),
+    if moves.is_empty() {
+        return 0;
     }
+    strokes.len() as u64
 }
 
-/// The security height of a job.
-fn security(j: &Job) -> Um
-    ensures { result ≡ j.now.sec }
+/// Where a tip at the security height is, if that is known.
+fn place_of(tip: Tip) -> Option<Pt3>
+    ensures { (job : JobContent) → IsAtSecurity job tip → tip_at job result ≡ tip }
 {
-    j.rule();
-    Um::of(j.sec())
+    match tip {
+        Tip::Unknown => None,
+        Tip::Height(_) => None,
+        Tip::At(place) => Some(place),
+    }
 }

@@ -1,11 +1,7 @@
-//! The plans of a job of holes and of a pocket, move by move.
-ghost use Rattle.std.specs.Prelude.{IsTrue};
-ghost use Rattle.std.specs.List.{All};
-ghost use Rattle.sn_link.specs.Plan.{HasPlan};
-
+//! The plans of a job of holes, of a trail and of a pocket, move by move.
 use super::*;
 use sn_geom::{Body, Pt, Pt3, Um};
-use sn_outline::{Bottom, Job, Numbers, Outline, Shape, Shapes, StepJob, Steps, Way};
+use sn_outline::{Bottom, Job, Numbers, Outline, Points, Shape, Shapes, StepJob, Steps, Way};
 use sn_raster::{Big, Grid};
 use std::alloc::Global;
 use std::test::Fail;
@@ -58,6 +54,17 @@ fn hole(
     })
 }
 
+/// A job of these steps, with so many tools.
+fn job_of(alloc: Global, steps: Steps, count: u32) -> Result<Job, Fail> {
+    let mut tools = Numbers::new(alloc);
+    for k in 0..count {
+        tools.push(k)?;
+    }
+    let low = pt3(0, 0, 0)?;
+    let high = pt3(20_000, 20_000, 10_000)?;
+    Ok(Job::new(1_000, low, high, 20_000, steps, tools).ok_or("no job")?)
+}
+
 /// Two holes, the first of them once more, and with another tool a hole in the bottom of the second.
 fn job(alloc: Global) -> Result<Job, Fail> {
     let flat = Body { d: 4_000, e: 0 };
@@ -67,28 +74,25 @@ fn job(alloc: Global) -> Result<Job, Fail> {
     steps.push(hole(alloc, 2, 14_000, 6_000, 1, flat)?)?;
     steps.push(hole(alloc, 1, 5_000, 4_000, 1, flat)?)?;
     steps.push(hole(alloc, 3, 14_000, 1_000, 2, pointed)?)?;
-    let mut tools = Numbers::new(alloc);
-    tools.push(1)?;
-    tools.push(2)?;
-    let low = pt3(0, 0, 0)?;
-    let high = pt3(20_000, 20_000, 10_000)?;
-    Ok(Job::new(1_000, low, high, 20_000, steps, tools).ok_or("no job")?)
+    job_of(alloc, steps, 2)
 }
 
-fn has_plan(step: &StepJob) -> bool
-    ensures { IsTrue result → HasPlan step.now }
-{
-    match step.way {
-        Way::Clear => true,
-        Way::Trail => false,
-        Way::Drill => true,
+/// A trail of three points, which is cut in two layers.
+fn trail(alloc: Global) -> Result<Job, Fail> {
+    let mut points = Points::new(alloc);
+    for (x, y) in [(3_000, 5_000), (9_000, 5_000), (9_000, 9_000)] {
+        points.push(Pt {
+            x: um(x)?,
+            y: um(y)?,
+        })?;
     }
-}
-
-fn have_plans(steps: &[StepJob]) -> bool
-    ensures { IsTrue result → All HasPlan steps.now }
-{
-    steps.iter().all(|s| has_plan(s))
+    let mut step = hole(alloc, 1, 5_000, 4_000, 1, Body { d: 4_000, e: 0 })?;
+    step.outline.shape = Shape::Trail(points, 4_000);
+    step.axial = 3_000;
+    step.way = Way::Trail;
+    let mut steps = Steps::new(alloc);
+    steps.push(step)?;
+    job_of(alloc, steps, 1)
 }
 
 fn plans_of(alloc: Global, job: &Job) -> Result<Plans, Fail> {
@@ -96,10 +100,17 @@ fn plans_of(alloc: Global, job: &Job) -> Result<Plans, Fail> {
         Ok(g) => g,
         Err(Big) => return Err("too big".into()),
     };
-    if have_plans(job.steps()) {
-        return Ok(plan(alloc, job, &g)?);
-    }
-    Err("a step without a plan".into())
+    Ok(plan(alloc, job, &g)?)
+}
+
+/// The strokes in a layer, the layers, the lifts and the cells.
+fn counts(planned: &PlannedStep) -> (u64, u64, u64, u64) {
+    (
+        planned.strokes,
+        planned.layers,
+        planned.lifts,
+        planned.cells,
+    )
 }
 
 fn rapid(x: i32, z: i32) -> Result<Move, Fail> {
@@ -122,15 +133,15 @@ fn holes_of_two_tools(rt: HostRuntime) -> Result<(), Fail> {
         feed(5_000, 4_000)?,
         rapid(5_000, 20_000)?,
     ];
-    assert_eq!(rt; plans[0].as_slice(), first.as_slice());
+    assert_eq!(rt; plans[0].moves.as_slice(), first.as_slice());
     let second = [
         rapid(14_000, 20_000)?,
         rapid(14_000, 11_000)?,
         feed(14_000, 6_000)?,
         rapid(14_000, 20_000)?,
     ];
-    assert_eq!(rt; plans[1].as_slice(), second.as_slice());
-    assert!(rt; plans[2].is_empty());
+    assert_eq!(rt; plans[1].moves.as_slice(), second.as_slice());
+    assert!(rt; plans[2].moves.is_empty());
     // After the tool change the place is not known, and the material ends at the bottom of the second hole.
     let last = [
         rapid(14_000, 20_000)?,
@@ -139,7 +150,36 @@ fn holes_of_two_tools(rt: HostRuntime) -> Result<(), Fail> {
         feed(14_000, 1_300)?,
         rapid(14_000, 20_000)?,
     ];
-    assert_eq!(rt; plans[3].as_slice(), last.as_slice());
+    assert_eq!(rt; plans[3].moves.as_slice(), last.as_slice());
+    // 13 nodes are under the first tool, and 9 under the second, which cuts with its whole diameter from 1300 on.
+    assert_eq!(rt; counts(&plans[0]), (1, 1, 1, 78_000));
+    assert_eq!(rt; counts(&plans[1]), (1, 1, 1, 52_000));
+    assert_eq!(rt; counts(&plans[2]), (0, 0, 0, 0));
+    assert_eq!(rt; counts(&plans[3]), (1, 1, 1, 42_300));
+    Ok(())
+}
+
+#[test]
+fn trail_in_two_layers(rt: HostRuntime) -> Result<(), Fail> {
+    let plans = plans_of(rt.alloc(), &trail(rt.alloc())?)?;
+    assert_eq!(rt; plans.len(), 1);
+    let expected = [
+        rapid(3_000, 20_000)?,
+        rapid(3_000, 11_000)?,
+        feed(3_000, 7_000)?,
+        feed(9_000, 7_000)?,
+        Move::Feed(pt3(9_000, 9_000, 7_000)?),
+        Move::Rapid(pt3(9_000, 9_000, 20_000)?),
+        rapid(3_000, 20_000)?,
+        rapid(3_000, 8_000)?,
+        feed(3_000, 4_000)?,
+        feed(9_000, 4_000)?,
+        Move::Feed(pt3(9_000, 9_000, 4_000)?),
+        Move::Rapid(pt3(9_000, 9_000, 20_000)?),
+    ];
+    let planned = &plans.as_slice()[0];
+    assert_eq!(rt; planned.moves.as_slice(), expected.as_slice());
+    assert_eq!(rt; (planned.strokes, planned.layers, planned.lifts), (2, 2, 2));
     Ok(())
 }
 
@@ -210,6 +250,8 @@ fn pocket_in_two_layers(rt: HostRuntime) -> Result<(), Fail> {
         Move::Feed(pt3(7_000, 10_000, 4_300)?),
         Move::Rapid(pt3(7_000, 10_000, 20_000)?),
     ];
-    assert_eq!(rt; plans.as_slice()[0].as_slice(), expected.as_slice());
+    let planned = &plans.as_slice()[0];
+    assert_eq!(rt; planned.moves.as_slice(), expected.as_slice());
+    assert_eq!(rt; (planned.strokes, planned.layers, planned.lifts), (3, 2, 2));
     Ok(())
 }

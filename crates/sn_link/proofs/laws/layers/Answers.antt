@@ -1,4 +1,4 @@
-use Rattle.sn_link.proofs.LayerLawLemmas.{an_axial_depth_apart, come_to_the_floor, the_list_of_layers, fed_or_lifted, along_their_strokes, where_the_last_cut, nothing_to_clear_no_moves}
+use Rattle.sn_link.proofs.LayerLawLemmas.{an_axial_depth_apart, come_to_the_floor, the_list_of_layers, fed_or_lifted, along_their_strokes, where_the_last_cut, followed_in_layers}
 use Rattle.sn_link.proofs.laws.layers.Goals as goal
 
 pub returns : goal.returns
@@ -9,5 +9,5 @@ returns c = record {
   links = fed_or_lifted;
   along = along_their_strokes;
   later = where_the_last_cut;
-  no_moves = nothing_to_clear_no_moves;
+  trails = followed_in_layers;
 }

@@ -1,4 +1,5 @@
-use Rattle.sn_link.proofs.PlanLawLemmas.{one_highest, one_plan, nothing_to_cut_no_moves, repeated_steps_rest, steps_begin_at_the_tip}
+use Rattle.sn_link.proofs.OnePlanLemmas.{one_highest}
+use Rattle.sn_link.proofs.PlanLawLemmas.{one_plan, nothing_to_cut_no_moves, repeated_steps_rest, steps_begin_at_the_tip, drills_plunge}
 use Rattle.sn_link.proofs.laws.plans.Goals as goal
 
 pub returns-clause-one_highest : goal.returns-clause-one_highest
@@ -15,3 +16,6 @@ returns-clause-repeated c = repeated_steps_rest
 
 pub returns-clause-begin_at_the_tip : goal.returns-clause-begin_at_the_tip
 returns-clause-begin_at_the_tip c = steps_begin_at_the_tip
+
+pub returns-clause-drills : goal.returns-clause-drills
+returns-clause-drills c = drills_plunge

@@ -1,4 +1,3 @@
-use Rattle.std.proofs.Common.{subst, sym}
 use Rattle.sn_link.proofs.material.cut_by_move.Goals as goal
 
 pub returns-in-At-clause-material : goal.returns-in-At-clause-material

@@ -1,4 +1,4 @@
-use Rattle.std.proofs.Common.{ℕ, ◌≡◌, ◌+◌, suc, ◌∷◌, [], drop, sym, ap, ◌∙◌, subst, refl, drop-cons, arith}
+use Rattle.std.proofs.Common.{◌≡◌, ◌+◌, suc, ◌∷◌, [], drop, sym, ap, ◌∙◌, subst, drop-cons, arith}
 use Rattle.std.proofs.Math.ListN.{drop_of_length-le}
 use Rattle.sn_geom.specs.Tip.{tip_after}
 use Rattle.sn_link.proofs.MaterialLemmas.{IsCutTo, none_cut, one_cut, all_cut}

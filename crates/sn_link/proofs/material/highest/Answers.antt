@@ -1,4 +1,4 @@
-use Rattle.std.proofs.Common.{ap, sym, ◌∙◌, subst}
+use Rattle.std.proofs.Common.{sym, ◌∙◌, subst}
 use Rattle.sn_geom.specs.Length.{IsLength}
 use Rattle.sn_raster.specs.Grid.{IsGrid}
 use Rattle.sn_raster.specs.Heights.{IsTopOfCells}

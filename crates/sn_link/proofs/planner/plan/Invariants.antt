@@ -1,5 +1,5 @@
 use Rattle.sn_link.proofs.PlanLemmas.{ArePlanned}
 use Rattle.sn_link.proofs.planner.plan.Given as goal
 
-abbrev pub invariant-loop-step : goal.invariant-loop-step
-invariant-loop-step l = ArePlanned l.g l.j l.steps l.step-index l.plans l.progress
+abbrev pub invariant-loop-k : goal.invariant-loop-k
+invariant-loop-k l = ArePlanned l.g l.j l.steps l.k l.plans l.progress

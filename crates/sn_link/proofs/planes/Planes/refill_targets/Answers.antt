@@ -1,5 +1,5 @@
 use Rattle.std.proofs.Common.{◌∙◌}
-use Rattle.sn_link.proofs.ClearingLemmas.{targets_are}
+use Rattle.sn_link.proofs.LayeringLemmas.{targets_are}
 use Rattle.sn_link.proofs.planes.Planes.refill_targets.Goals as goal
 
 pub returns-clause-targets : goal.returns-clause-targets
