@@ -1,0 +1,14 @@
+mod ActLemmas
+mod CausesLemmas
+mod CellSearch
+mod FeedLemmas
+mod FinishLemmas
+mod GoodLemmas
+mod LeftLemmas
+mod LineCauseLemmas
+mod LineLemmas
+mod LongLines
+mod OutlineTests
+mod ReadLemmas
+mod StraightLemmas
+mod TakenPieces
