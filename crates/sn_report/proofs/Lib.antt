@@ -1,0 +1,10 @@
+mod ReportLemmas
+mod DrawLemmas
+mod Layers
+mod Sound
+mod Climbing
+mod SoundFile
+mod CommonRows
+mod FeatureRows
+mod GeneratedPart
+mod SlotText
