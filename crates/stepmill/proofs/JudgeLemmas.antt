@@ -23,7 +23,7 @@ use Rattle.stepmill.specs.declared.reading.TheConstants.{LONGEST}
 use Rattle.stepmill.specs.declared.refusal.Refusal.{Refusal}
 use Rattle.stepmill.specs.declared.refusal.Refusal.TheVariants as refused
 use Rattle.stepmill.specs.FaultText.{refusal_of, refusal_of_model, refusal_of_references, refusal_of_job}
-use Rattle.stepmill.specs.Part.{IsFileOf, HaveModel, HaveSoundModel, HaveJob, IsRefusedJob, IsRefusedPart}
+use Rattle.stepmill.specs.Part.{IsFileOf, HaveModel, HaveSoundModel, HaveJob, IsRefusedJob, IsRefusedPart, IsUncompiledPart}
 
 -- Memory was wanting, or the refusal is one of the part, with these options or with any.
 
@@ -91,9 +91,3 @@ other_reference fault other = refl
 pub with_these : (bytes : List ℕ) (o : Options) (refusal : Refusal) → IsMemoryOr (IsRefusedWithAny bytes) refusal → IsMemoryOr (IsRefusedPart bytes o) refusal
 with_these bytes o refusal (inl memory) = inl memory
 with_these bytes o refusal (inr why) = inr (why o)
-
-pub of_reach : (bytes : List ℕ) (o : Options) (m : ModelContent) (j : Job) (refusal : Refusal) → HaveJob bytes o m j
-    → IsMemoryOr (λ (r : Refusal). (feature : ℕ) × (cell : Cell) × (r ≡ refused.Uncovered feature cell) × IsFirstUnreached j feature cell) refusal
-    → IsMemoryOr (IsRefusedPart bytes o) refusal
-of_reach bytes o m j refusal have (inl memory) = inl memory
-of_reach bytes o m j refusal have (inr (feature, cell, is, first)) = inr (subst (IsRefusedPart bytes o) (sym is) (m, j, have, first))

@@ -1,5 +1,5 @@
 -- What the bytes of a part give, stage by stage: at each one a refusal, or what the next one goes by. So they give one answer.
-use Rattle.std.proofs.Common.{ℕ, ◌≡◌, ◌≤◌, ◌<◌, List, length, Result, Ok, Err, refl, sym, ap, subst, ◌∙◌, arith}
+use Rattle.std.proofs.Common.{ℕ, ◌≡◌, ◌≤◌, ◌<◌, List, length, Result, Ok, Err, inl, inr, refl, sym, ap, subst, ◌∙◌, arith}
 use Rattle.sn_geom.specs.declared.units.Cell.{Cell}
 use Rattle.sn_p21.specs.Content.{Content}
 use Rattle.sn_p21.specs.FirstFault.{IsFirstFault, OneFault}
@@ -22,8 +22,7 @@ use Rattle.stepmill.specs.declared.refusal.Refusal.TheVariants as refused
 use Rattle.stepmill.specs.declared.refusal.TextFault.{TextFault}
 use Rattle.stepmill.specs.declared.refusal.TextFault.TheVariants.{Lex, Unexpected, Twice, TooDeep}
 use Rattle.stepmill.specs.FaultText.{p21_fault, refusal_of}
-use Rattle.stepmill.specs.Compiled.{AreCompiled}
-use Rattle.stepmill.specs.Part.{IsRefusedJob, IsRefusedPart, IsSoundPart, SoundOrRefused}
+use Rattle.stepmill.specs.Part.{HasLongProgram, HasShortProgram, HaveJob, IsCompiledPart, IsRefusedJob, IsRefusedPart, IsSoundPart, IsUncompiledPart, SoundOrRefused}
 use Rattle.stepmill.proofs.ReachLawLemmas.{one_small, seen_or_small, one_unreached, reached_or_not}
 
 -- Stages.
@@ -55,7 +54,7 @@ one_answer_of X F Goes Stops refusal Next decided next answer other (goes thing 
 one_answer_of X F Goes Stops refusal Next decided next answer other (goes thing so later) (goes again so' later') =
     next again answer other (subst (λ (t : X). Next t answer) (decided.one_thing thing again so so') later) later'
 
--- The stages from a job on.
+-- The last stages: those of a part that is sound, and of one that is compiled.
 
 abbrev Nothing : Type 0
 Nothing = Unit {0}
@@ -63,59 +62,76 @@ Nothing = Unit {0}
 one_nothing : (a b : Nothing) → a ≡ b
 one_nothing a b = refl
 
-abbrev Formed : ModelContent → Job → Answer → Type 0
-Formed m job = Stage Nothing Nothing (λ _. AreCompiled m job) (λ _. ¬ AreCompiled m job) (λ _. refused.FormNotBuilt) (λ _ answer. answer ≡ Ok job)
+abbrev Last : Type 1
+Last = ModelContent → Job → Answer → Type 0
 
-abbrev Reaching : ModelContent → Job → Answer → Type 0
+abbrev Answered : Last
+Answered m job answer = answer ≡ Ok job
+
+abbrev Measured : Last
+Measured m job = Stage Nothing Nothing (λ _. HasShortProgram job) (λ _. HasLongProgram job) (λ _. refused.TooLong) (λ _. Answered m job)
+
+abbrev Reaching : Last
 Reaching m job =
-    Stage Nothing (ℕ × Cell) (λ _. IsReachable job) (λ found. IsFirstUnreached job found.0 found.1) (λ found. refused.Uncovered found.0 found.1) (λ _. Formed m job)
+    Stage Nothing (ℕ × Cell) (λ _. IsReachable job) (λ found. IsFirstUnreached job found.0 found.1) (λ found. refused.Uncovered found.0 found.1) (λ _. Measured m job)
 
-abbrev AllSeen : Job → Type 0
-AllSeen job = (feature : ℕ) → IsExecuted job feature → HasRequired job feature
+abbrev HasOneLast : Last → Type 0
+HasOneLast L = (m : ModelContent) (job : Job) → HasOneAnswer (L m job)
 
-abbrev Seen : ModelContent → Job → Answer → Type 0
-Seen m job = Stage Nothing ℕ (λ _. AllSeen job) (IsFirstSmall job) (λ feature. refused.Job (TooSmall feature)) (λ _. Reaching m job)
+one_answered : HasOneLast Answered
+one_answered m job answer other is is' = is ∙ sym is'
 
-abbrev Gridded : ModelContent → Job → Answer → Type 0
-Gridded m job = Stage Nothing Nothing (λ _. FitsGrid job) (λ _. ¬ FitsGrid job) (λ _. refused.Job GridTooBig) (λ _. Seen m job)
+not_both_lengths : (job : Job) → HasShortProgram job → ¬ HasLongProgram job
+not_both_lengths job short (plan, is, long) = let within = short plan is in absurd (omega (arith, within, long))
 
-one_by_form : (m : ModelContent) (job : Job) → HasOneAnswer (Formed m job)
-one_by_form m job =
-    one_answer_of Nothing Nothing (λ _. AreCompiled m job) (λ _. ¬ AreCompiled m job) (λ _. refused.FormNotBuilt) (λ _ answer. answer ≡ Ok job)
-    (record { one_fault = λ f g _ _. one_nothing f g; one_thing = λ x y _ _. one_nothing x y; not_both = λ _ _ flat not. not flat })
-    (λ _ answer other is is'. is ∙ sym is')
+one_by_length : HasOneLast Measured
+one_by_length m job =
+    one_answer_of Nothing Nothing (λ _. HasShortProgram job) (λ _. HasLongProgram job) (λ _. refused.TooLong) (λ _. Answered m job)
+    (record { one_fault = λ f g _ _. one_nothing f g; one_thing = λ x y _ _. one_nothing x y; not_both = λ _ _ short long. not_both_lengths job short long })
+    (λ _. one_answered m job)
 
 one_pair : (a b : ℕ × Cell) → (a.0 ≡ b.0) × (a.1 ≡ b.1) → a ≡ b
 one_pair a b (first, second) = λ k. (first k, second k)
 
-one_by_reach : (m : ModelContent) (job : Job) → HasOneAnswer (Reaching m job)
+one_by_reach : HasOneLast Reaching
 one_by_reach m job =
-    one_answer_of Nothing (ℕ × Cell) (λ _. IsReachable job) (λ found. IsFirstUnreached job found.0 found.1) (λ found. refused.Uncovered found.0 found.1) (λ _. Formed m job)
+    one_answer_of Nothing (ℕ × Cell) (λ _. IsReachable job) (λ found. IsFirstUnreached job found.0 found.1) (λ found. refused.Uncovered found.0 found.1) (λ _. Measured m job)
     (record {
       one_fault = λ f g first again. one_pair f g (one_unreached job f.0 g.0 f.1 g.1 first again);
       one_thing = λ x y _ _. one_nothing x y;
       not_both = λ _ found reachable. reached_or_not job found.0 found.1 reachable;
-    }) (λ _. one_by_form m job)
+    }) (λ _. one_by_length m job)
 
-one_by_sight : (m : ModelContent) (job : Job) → HasOneAnswer (Seen m job)
-one_by_sight m job =
-    one_answer_of Nothing ℕ (λ _. AllSeen job) (IsFirstSmall job) (λ feature. refused.Job (TooSmall feature)) (λ _. Reaching m job)
+-- The stages from a job on, before the last ones.
+
+abbrev AllSeen : Job → Type 0
+AllSeen job = (feature : ℕ) → IsExecuted job feature → HasRequired job feature
+
+abbrev Seen : Last → ModelContent → Job → Answer → Type 0
+Seen L m job = Stage Nothing ℕ (λ _. AllSeen job) (IsFirstSmall job) (λ feature. refused.Job (TooSmall feature)) (λ _. L m job)
+
+abbrev Gridded : Last → ModelContent → Job → Answer → Type 0
+Gridded L m job = Stage Nothing Nothing (λ _. FitsGrid job) (λ _. ¬ FitsGrid job) (λ _. refused.Job GridTooBig) (λ _. Seen L m job)
+
+one_by_sight : (L : Last) → HasOneLast L → (m : ModelContent) (job : Job) → HasOneAnswer (Seen L m job)
+one_by_sight L last m job =
+    one_answer_of Nothing ℕ (λ _. AllSeen job) (IsFirstSmall job) (λ feature. refused.Job (TooSmall feature)) (λ _. L m job)
     (record { one_fault = one_small job; one_thing = λ x y _ _. one_nothing x y; not_both = λ _ feature seen. seen_or_small job feature seen })
-    (λ _. one_by_reach m job)
+    (λ _. last m job)
 
-one_by_grid : (m : ModelContent) (job : Job) → HasOneAnswer (Gridded m job)
-one_by_grid m job =
-    one_answer_of Nothing Nothing (λ _. FitsGrid job) (λ _. ¬ FitsGrid job) (λ _. refused.Job GridTooBig) (λ _. Seen m job)
+one_by_grid : (L : Last) → HasOneLast L → (m : ModelContent) (job : Job) → HasOneAnswer (Gridded L m job)
+one_by_grid L last m job =
+    one_answer_of Nothing Nothing (λ _. FitsGrid job) (λ _. ¬ FitsGrid job) (λ _. refused.Job GridTooBig) (λ _. Seen L m job)
     (record { one_fault = λ f g _ _. one_nothing f g; one_thing = λ x y _ _. one_nothing x y; not_both = λ _ _ fits big. big fits })
-    (λ _. one_by_sight m job)
+    (λ _. one_by_sight L last m job)
 
 -- The stages from a model on.
 
-abbrev Jobbed : ModelContent → Options → Answer → Type 0
-Jobbed m o = Stage Job JobFault (λ job. job_of m o ≡ Ok job) (λ fault. job_of m o ≡ Err fault) refused.Job (Gridded m)
+abbrev Jobbed : Last → ModelContent → Options → Answer → Type 0
+Jobbed L m o = Stage Job JobFault (λ job. job_of m o ≡ Ok job) (λ fault. job_of m o ≡ Err fault) refused.Job (Gridded L m)
 
-abbrev Checked : ModelContent → Options → Answer → Type 0
-Checked m o = Stage Nothing RefFault (λ _. IsSound m) (IsRefFault m) refused.Reference (λ _. Jobbed m o)
+abbrev Checked : Last → ModelContent → Options → Answer → Type 0
+Checked L m o = Stage Nothing RefFault (λ _. IsSound m) (IsRefFault m) refused.Reference (λ _. Jobbed L m o)
 
 -- what a result is
 one_ok : {A E : Type 0} (r : Result A E) (x y : A) → r ≡ Ok x → r ≡ Ok y → x ≡ y
@@ -127,31 +143,32 @@ one_err r e f is is' = cc
 ok_or_err : {A E : Type 0} (r : Result A E) (x : A) (e : E) → r ≡ Ok x → ¬ (r ≡ Err e)
 ok_or_err r x e is is' = cc
 
-one_by_job : (m : ModelContent) (o : Options) → HasOneAnswer (Jobbed m o)
-one_by_job m o =
-    one_answer_of Job JobFault (λ job. job_of m o ≡ Ok job) (λ fault. job_of m o ≡ Err fault) refused.Job (Gridded m)
-    (record { one_fault = one_err (job_of m o); one_thing = one_ok (job_of m o); not_both = ok_or_err (job_of m o) }) (one_by_grid m)
+one_by_job : (L : Last) → HasOneLast L → (m : ModelContent) (o : Options) → HasOneAnswer (Jobbed L m o)
+one_by_job L last m o =
+    one_answer_of Job JobFault (λ job. job_of m o ≡ Ok job) (λ fault. job_of m o ≡ Err fault) refused.Job (Gridded L m)
+    (record { one_fault = one_err (job_of m o); one_thing = one_ok (job_of m o); not_both = ok_or_err (job_of m o) }) (one_by_grid L last m)
 
-one_by_check : OneVerdict → (m : ModelContent) (o : Options) → HasOneAnswer (Checked m o)
-one_by_check verdict m o =
-    one_answer_of Nothing RefFault (λ _. IsSound m) (IsRefFault m) refused.Reference (λ _. Jobbed m o)
-    (record { one_fault = verdict.0 m; one_thing = λ x y _ _. one_nothing x y; not_both = λ _ fault. verdict.1 m fault }) (λ _. one_by_job m o)
+one_by_check : (L : Last) → HasOneLast L → OneVerdict → (m : ModelContent) (o : Options) → HasOneAnswer (Checked L m o)
+one_by_check L last verdict m o =
+    one_answer_of Nothing RefFault (λ _. IsSound m) (IsRefFault m) refused.Reference (λ _. Jobbed L m o)
+    (record { one_fault = verdict.0 m; one_thing = λ x y _ _. one_nothing x y; not_both = λ _ fault. verdict.1 m fault }) (λ _. one_by_job L last m o)
 
 -- The stages from the bytes on.
 
-abbrev Modelled : Options → Content → Answer → Type 0
-Modelled o file = Stage ModelContent ModelFault (IsModelOf file.instances) (IsModelFault file.instances) refused.Model (λ m. Checked m o)
+abbrev Modelled : Last → Options → Content → Answer → Type 0
+Modelled L o file = Stage ModelContent ModelFault (IsModelOf file.instances) (IsModelFault file.instances) refused.Model (λ m. Checked L m o)
 
-abbrev Parsed : List ℕ → Options → Answer → Type 0
-Parsed bytes o = Stage Content TextFault (IsPartText bytes) (λ fault. IsFirstFault bytes (p21_fault fault)) refused.Text (Modelled o)
+abbrev Parsed : Last → List ℕ → Options → Answer → Type 0
+Parsed L bytes o = Stage Content TextFault (IsPartText bytes) (λ fault. IsFirstFault bytes (p21_fault fault)) refused.Text (Modelled L o)
 
-abbrev Judged : List ℕ → Options → Answer → Type 0
-Judged bytes o = Stage Nothing Nothing (λ _. length bytes ≤ LONGEST) (λ _. LONGEST < length bytes) (λ _. refused.TooLong) (λ _. Parsed bytes o)
+abbrev Judged : Last → List ℕ → Options → Answer → Type 0
+Judged L bytes o = Stage Nothing Nothing (λ _. length bytes ≤ LONGEST) (λ _. LONGEST < length bytes) (λ _. refused.TooLong) (λ _. Parsed L bytes o)
 
-one_by_model : OneModel → OneVerdict → (o : Options) (file : Content) → HasOneAnswer (Modelled o file)
-one_by_model model verdict o file =
-    one_answer_of ModelContent ModelFault (IsModelOf file.instances) (IsModelFault file.instances) refused.Model (λ m. Checked m o)
-    (record { one_fault = model.1 file.instances; one_thing = model.0 file.instances; not_both = model.2 file.instances }) (λ m. one_by_check verdict m o)
+one_by_model : (L : Last) → HasOneLast L → OneModel → OneVerdict → (o : Options) (file : Content) → HasOneAnswer (Modelled L o file)
+one_by_model L last model verdict o file =
+    one_answer_of ModelContent ModelFault (IsModelOf file.instances) (IsModelFault file.instances) refused.Model (λ m. Checked L m o)
+    (record { one_fault = model.1 file.instances; one_thing = model.0 file.instances; not_both = model.2 file.instances })
+    (λ m. one_by_check L last verdict m o)
 
 as_text : (fault : TextFault) → refusal_of (p21_fault fault) ≡ refused.Text fault
 as_text (Lex fault) = refl
@@ -163,79 +180,91 @@ one_text_fault : (fault other : TextFault) → p21_fault fault ≡ p21_fault oth
 one_text_fault fault other same =
     let refusal : refused.Text fault ≡ refused.Text other = sym (as_text fault) ∙ ap refusal_of same ∙ as_text other in cc
 
-one_by_text : OneFile → OneFault → OneModel → OneVerdict → (bytes : List ℕ) (o : Options) → HasOneAnswer (Parsed bytes o)
-one_by_text file fault model verdict bytes o =
-    one_answer_of Content TextFault (IsPartText bytes) (λ f. IsFirstFault bytes (p21_fault f)) refused.Text (Modelled o)
+one_by_text : (L : Last) → HasOneLast L → OneFile → OneFault → OneModel → OneVerdict → (bytes : List ℕ) (o : Options) → HasOneAnswer (Parsed L bytes o)
+one_by_text L last file fault model verdict bytes o =
+    one_answer_of Content TextFault (IsPartText bytes) (λ f. IsFirstFault bytes (p21_fault f)) refused.Text (Modelled L o)
     (record {
       one_fault = λ f g first again. one_text_fault f g (fault.0 bytes (p21_fault f) (p21_fault g) first again);
       one_thing = file bytes;
       not_both = λ content f. fault.1 bytes content (p21_fault f);
-    }) (one_by_model model verdict o)
+    }) (one_by_model L last model verdict o)
 
-one_answer : OneFile → OneFault → OneModel → OneVerdict → (bytes : List ℕ) (o : Options) → HasOneAnswer (Judged bytes o)
-one_answer file fault model verdict bytes o =
-    one_answer_of Nothing Nothing (λ _. length bytes ≤ LONGEST) (λ _. LONGEST < length bytes) (λ _. refused.TooLong) (λ _. Parsed bytes o)
+one_answer : (L : Last) → HasOneLast L → OneFile → OneFault → OneModel → OneVerdict → (bytes : List ℕ) (o : Options) → HasOneAnswer (Judged L bytes o)
+one_answer L last file fault model verdict bytes o =
+    one_answer_of Nothing Nothing (λ _. length bytes ≤ LONGEST) (λ _. LONGEST < length bytes) (λ _. refused.TooLong) (λ _. Parsed L bytes o)
     (record { one_fault = λ f g _ _. one_nothing f g; one_thing = λ x y _ _. one_nothing x y; not_both = λ _ _ short long. omega arith })
-    (λ _. one_by_text file fault model verdict bytes o)
+    (λ _. one_by_text L last file fault model verdict bytes o)
 
--- The answer of a part that is compiled, and of one that is refused.
+-- The answers of a part.
 
-sound_answer : (bytes : List ℕ) (o : Options) (job : Job) → IsSoundPart bytes o job → Judged bytes o (Ok job)
-sound_answer bytes o job sound =
-    let have = sound.job_is.model in
-    let prepared = sound.job_is.prepared in
-    goes tt have.model.file_is.short
-    (goes have.model.file have.model.file_is.text
-    (goes sound.model have.model.built
-    (goes tt have.sound
-    (goes job prepared.job_is (goes tt prepared.fits (goes tt prepared.seen (goes tt sound.reachable (goes tt sound.compiled refl))))))))
+-- one that has a job answers by the last stages
+job_answer : (L : Last) (bytes : List ℕ) (o : Options) (m : ModelContent) (job : Job) (answer : Answer) → HaveJob bytes o m job → L m job answer → Judged L bytes o answer
+job_answer L bytes o m job answer have last =
+    let model = have.model.model in
+    goes tt model.file_is.short
+    (goes model.file model.file_is.text
+    (goes m model.built
+    (goes tt have.model.sound
+    (goes job have.prepared.job_is (goes tt have.prepared.fits (goes tt have.prepared.seen last))))))
 
-job_answer : (m : ModelContent) (o : Options) (fault : JobFault) → IsRefusedJob m o fault → Jobbed m o (Err (refused.Job fault))
-job_answer m o GridTooBig (job, is, big) = goes job is (stops tt big refl)
-job_answer m o (TooSmall feature) (job, is, fits, small) = goes job is (goes tt fits (stops feature small refl))
-job_answer m o fault is = stops fault is refl
+fault_answer : (L : Last) (m : ModelContent) (o : Options) (fault : JobFault) → IsRefusedJob m o fault → Jobbed L m o (Err (refused.Job fault))
+fault_answer L m o GridTooBig (job, is, big) = goes job is (stops tt big refl)
+fault_answer L m o (TooSmall feature) (job, is, fits, small) = goes job is (goes tt fits (stops feature small refl))
+fault_answer L m o fault is = stops fault is refl
 
-refused_answer : (bytes : List ℕ) (o : Options) (refusal : Refusal) → IsRefusedPart bytes o refusal → Judged bytes o (Err refusal)
-refused_answer bytes o (refused.Word place) why = absurd why
-refused_answer bytes o refused.NotRead why = absurd why
-refused_answer bytes o refused.NoMemory why = absurd why
-refused_answer bytes o refused.TooLong why = stops tt why refl
-refused_answer bytes o (refused.Text fault) (short, first) = goes tt short (stops fault first refl)
-refused_answer bytes o (refused.Model fault) (file, is, why) = goes tt is.short (goes file is.text (stops fault why refl))
-refused_answer bytes o (refused.Reference fault) (m, have, why) =
+refused_answer : (L : Last) (bytes : List ℕ) (o : Options) (refusal : Refusal) → IsRefusedPart bytes o refusal → Judged L bytes o (Err refusal)
+refused_answer L bytes o refused.TooLong why = stops tt why refl
+refused_answer L bytes o (refused.Text fault) (short, first) = goes tt short (stops fault first refl)
+refused_answer L bytes o (refused.Model fault) (file, is, why) = goes tt is.short (goes file is.text (stops fault why refl))
+refused_answer L bytes o (refused.Reference fault) (m, have, why) =
     goes tt have.file_is.short (goes have.file have.file_is.text (goes m have.built (stops fault why refl)))
-refused_answer bytes o (refused.Job fault) (m, have, why) =
-    goes tt have.model.file_is.short (goes have.model.file have.model.file_is.text (goes m have.model.built (goes tt have.sound (job_answer m o fault why))))
-refused_answer bytes o (refused.Uncovered feature cell) (m, job, have, why) =
-    let model = have.model.model in
-    goes tt model.file_is.short
-    (goes model.file model.file_is.text
-    (goes m model.built
-    (goes tt have.model.sound
-    (goes job have.prepared.job_is (goes tt have.prepared.fits (goes tt have.prepared.seen (stops (feature, cell) why refl)))))))
-refused_answer bytes o refused.FormNotBuilt (m, job, have, reachable, why) =
-    let model = have.model.model in
-    goes tt model.file_is.short
-    (goes model.file model.file_is.text
-    (goes m model.built
-    (goes tt have.model.sound
-    (goes job have.prepared.job_is (goes tt have.prepared.fits (goes tt have.prepared.seen (goes tt reachable (stops tt why refl))))))))
+refused_answer L bytes o (refused.Job fault) (m, have, why) =
+    goes tt have.model.file_is.short (goes have.model.file have.model.file_is.text (goes m have.model.built (goes tt have.sound (fault_answer L m o fault why))))
+refused_answer L bytes o refusal why = absurd why
+
+compiled_answer : (bytes : List ℕ) (o : Options) (job : Job) → IsCompiledPart bytes o job → Judged Reaching bytes o (Ok job)
+compiled_answer bytes o job part =
+    job_answer Reaching bytes o part.sound.0 job (Ok job) part.sound.1 (goes tt part.reachable (goes tt part.short refl))
+
+uncompiled_answer : (bytes : List ℕ) (o : Options) (refusal : Refusal) → IsUncompiledPart bytes o refusal → Judged Reaching bytes o (Err refusal)
+uncompiled_answer bytes o (refused.Uncovered feature cell) (job, (m, have), why) =
+    job_answer Reaching bytes o m job (Err (refused.Uncovered feature cell)) have (stops (feature, cell) why refl)
+uncompiled_answer bytes o refused.TooLong (inl long) = refused_answer Reaching bytes o refused.TooLong long
+uncompiled_answer bytes o refused.TooLong (inr (job, (m, have), reachable, long)) =
+    job_answer Reaching bytes o m job (Err refused.TooLong) have (goes tt reachable (stops tt long refl))
+uncompiled_answer bytes o refusal why = refused_answer Reaching bytes o refusal why
 
 -- A part has one job or one refusal.
 
-pub one_part_job : OneFile → OneFault → OneModel → OneVerdict → (bytes : List ℕ) (o : Options) (some other : Job) → IsSoundPart bytes o some
+pub one_sound_job : OneFile → OneFault → OneModel → OneVerdict → (bytes : List ℕ) (o : Options) (some other : Job) → IsSoundPart bytes o some
     → IsSoundPart bytes o other → some ≡ other
-one_part_job file fault model verdict bytes o some other first again =
+one_sound_job file fault model verdict bytes o some other (m, first) (n, again) =
     one_ok (Ok some) some other refl
-    (one_answer file fault model verdict bytes o (Ok some) (Ok other) (sound_answer bytes o some first) (sound_answer bytes o other again))
+    (one_answer Answered one_answered file fault model verdict bytes o (Ok some) (Ok other)
+    (job_answer Answered bytes o m some (Ok some) first refl) (job_answer Answered bytes o n other (Ok other) again refl))
 
-pub one_part_refusal : OneFile → OneFault → OneModel → OneVerdict → (bytes : List ℕ) (o : Options) (some other : Refusal) → IsRefusedPart bytes o some
+pub one_refusal : OneFile → OneFault → OneModel → OneVerdict → (bytes : List ℕ) (o : Options) (some other : Refusal) → IsRefusedPart bytes o some
     → IsRefusedPart bytes o other → some ≡ other
-one_part_refusal file fault model verdict bytes o some other why again =
+one_refusal file fault model verdict bytes o some other why again =
     one_err (Err some) some other refl
-    (one_answer file fault model verdict bytes o (Err some) (Err other) (refused_answer bytes o some why) (refused_answer bytes o other again))
+    (one_answer Answered one_answered file fault model verdict bytes o (Err some) (Err other)
+    (refused_answer Answered bytes o some why) (refused_answer Answered bytes o other again))
+
+pub one_uncompiled : OneFile → OneFault → OneModel → OneVerdict → (bytes : List ℕ) (o : Options) (some other : Refusal) → IsUncompiledPart bytes o some
+    → IsUncompiledPart bytes o other → some ≡ other
+one_uncompiled file fault model verdict bytes o some other why again =
+    one_err (Err some) some other refl
+    (one_answer Reaching one_by_reach file fault model verdict bytes o (Err some) (Err other)
+    (uncompiled_answer bytes o some why) (uncompiled_answer bytes o other again))
 
 pub sound_or_refused : OneFile → OneFault → OneModel → OneVerdict → SoundOrRefused
-sound_or_refused file fault model verdict bytes o job refusal sound why =
-    ok_or_err (Ok job) job refusal refl
-    (one_answer file fault model verdict bytes o (Ok job) (Err refusal) (sound_answer bytes o job sound) (refused_answer bytes o refusal why))
+sound_or_refused file fault model verdict bytes o job refusal = (
+  (λ (m, have) why.
+      ok_or_err (Ok job) job refusal refl
+      (one_answer Answered one_answered file fault model verdict bytes o (Ok job) (Err refusal)
+      (job_answer Answered bytes o m job (Ok job) have refl) (refused_answer Answered bytes o refusal why))),
+  (λ part why.
+      ok_or_err (Ok job) job refusal refl
+      (one_answer Reaching one_by_reach file fault model verdict bytes o (Ok job) (Err refusal)
+      (compiled_answer bytes o job part) (uncompiled_answer bytes o refusal why))),
+)

@@ -1,6 +1,7 @@
 pub mod CommandLemmas
 pub mod ReadingLemmas
 pub mod TextLawLemmas
+pub mod LoadLemmas
 pub mod OutcomeLemmas
 pub mod OutcomeLawLemmas
 pub mod LineLemmas
@@ -15,5 +16,6 @@ pub mod ProgramLemmas
 pub mod ReachLawLemmas
 pub mod JudgedLemmas
 pub mod JudgeLemmas
-pub mod CompiledLemmas
-pub mod PreparedLemmas
+pub mod FindLemmas
+pub mod VerifyLemmas
+pub mod AnswerLemmas

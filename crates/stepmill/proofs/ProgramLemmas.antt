@@ -14,6 +14,8 @@ use Rattle.sn_outline.specs.Job.{Job}
 use Rattle.sn_outline.specs.declared.job.StepJob.{StepJob}
 use Rattle.sn_link.specs.declared.moves.Move.{Move}
 use Rattle.sn_link.specs.Moves.{end_of, AreStraight, is_in_spindle, tip_for, tool_after, tip_after_step, tip_after_moves}
+use Rattle.sn_link.specs.declared.planner.PlannedStep.{PlannedStep}
+use Rattle.sn_link.specs.Counts.{moves_of}
 use Rattle.sn_link.specs.Plan.{with_moves}
 use Rattle.stepmill.specs.PlanActs.{AreWritable}
 use Rattle.stepmill.specs.Text.{move_text, moves_text, rise_text, setting_text, step_text, steps_text}
@@ -75,26 +77,26 @@ step_with_moves job tool tip step (move ∷ moves) first e = refl
 -- Steps.
 
 -- the lines of the steps so far were taken, and those of the others are left, from the tool in the spindle and where the tip is
-pub record AreStepsLeft (job : Job) (before after : SinkState) (text : List ℕ) (tool : Option ℕ) (tip : Tip) (steps : List StepJob) (plans : List (List Move)) : Type 0 where
+pub record AreStepsLeft (job : Job) (before after : SinkState) (text : List ℕ) (tool : Option ℕ) (tip : Tip) (steps : List StepJob) (plans : List PlannedStep) : Type 0 where
   pub each : length plans ≡ length steps
-  pub writable : AreWritable job tool tip (with_moves steps plans)
+  pub writable : AreWritable job tool tip (with_moves steps (moves_of plans))
   pub front : List ℕ
-  pub parts : text ≡ front ++ steps_text job tool tip (with_moves steps plans)
+  pub parts : text ≡ front ++ steps_text job tool tip (with_moves steps (moves_of plans))
   pub takes : Takes before after front
 
-pub next_step : {job : Job} {a b : SinkState} {text : List ℕ} {tool : Option ℕ} {tip : Tip} {step : StepJob} {moves : List Move} {steps later_steps : List StepJob} {plans later_plans : List (List Move)}
-    → AreStepsLeft job a b text tool tip steps plans → steps ≡ step ∷ later_steps → plans ≡ moves ∷ later_plans
-    → AreStepsLeft job a b text tool tip (step ∷ later_steps) (moves ∷ later_plans)
-next_step {job} {a} {b} {text} {tool} {tip} {step} {moves} {steps} {later_steps} {plans} {later_plans} so_far one other =
+pub next_step : {job : Job} {a b : SinkState} {text : List ℕ} {tool : Option ℕ} {tip : Tip} {step : StepJob} {planned : PlannedStep} {steps later_steps : List StepJob} {plans later_plans : List PlannedStep}
+    → AreStepsLeft job a b text tool tip steps plans → steps ≡ step ∷ later_steps → plans ≡ planned ∷ later_plans
+    → AreStepsLeft job a b text tool tip (step ∷ later_steps) (planned ∷ later_plans)
+next_step {job} {a} {b} {text} {tool} {tip} {step} {planned} {steps} {later_steps} {plans} {later_plans} so_far one other =
     subst (AreStepsLeft job a b text tool tip (step ∷ later_steps)) other
     (subst (λ (left : List StepJob). AreStepsLeft job a b text tool tip left plans) one so_far)
 
-one_step_taken : (job : Job) (a b c : SinkState) (text : List ℕ) (tool : Option ℕ) (tip : Tip) (step : StepJob) (moves : List Move) (steps : List StepJob) (plans : List (List Move))
-    → AreStepsLeft job a b text tool tip (step ∷ steps) (moves ∷ plans) → Takes b c (step_text job tool tip step moves)
-    → AreStepsLeft job a c text (tool_after tool step moves) (tip_after_step job tool tip step moves) steps plans
-one_step_taken job a b c text tool tip step moves steps plans left takes =
-    let line = step_text job tool tip step moves in
-    let later = steps_text job (tool_after tool step moves) (tip_after_step job tool tip step moves) (with_moves steps plans) in
+one_step_taken : (job : Job) (a b c : SinkState) (text : List ℕ) (tool : Option ℕ) (tip : Tip) (step : StepJob) (planned : PlannedStep) (steps : List StepJob) (plans : List PlannedStep)
+    → AreStepsLeft job a b text tool tip (step ∷ steps) (planned ∷ plans) → Takes b c (step_text job tool tip step planned.moves)
+    → AreStepsLeft job a c text (tool_after tool step planned.moves) (tip_after_step job tool tip step planned.moves) steps plans
+one_step_taken job a b c text tool tip step planned steps plans left takes =
+    let line = step_text job tool tip step planned.moves in
+    let later = steps_text job (tool_after tool step planned.moves) (tip_after_step job tool tip step planned.moves) (with_moves steps (moves_of plans)) in
     let each = left.each in
     record {
       each = omega arith;
@@ -104,16 +106,20 @@ one_step_taken job a b c text tool tip step moves steps plans left takes =
       takes = takes-more a b c left.front line left.takes takes;
     }
 
-pub step_taken : {job : Job} {a b c : SinkState} {text : List ℕ} {tool later_tool : Option ℕ} {tip later_tip : Tip} {step : StepJob} {moves : List Move} {steps : List StepJob} {plans : List (List Move)}
-    → AreStepsLeft job a b text tool tip (step ∷ steps) (moves ∷ plans) → Takes b c (step_text job tool tip step moves)
+pub step_taken : {job : Job} {a b c : SinkState} {text : List ℕ} {tool later_tool : Option ℕ} {tip later_tip : Tip} {step : StepJob} {planned : PlannedStep} {moves : List Move} {steps : List StepJob} {plans : List PlannedStep}
+    → AreStepsLeft job a b text tool tip (step ∷ steps) (planned ∷ plans) → moves ≡ planned.moves → Takes b c (step_text job tool tip step moves)
     → later_tool ≡ tool_after tool step moves → later_tip ≡ tip_after_step job tool tip step moves
     → AreStepsLeft job a c text later_tool later_tip steps plans
-step_taken {job} {a} {b} {c} {text} {tool} {later_tool} {tip} {later_tip} {step} {moves} {steps} {plans} left takes tool_is tip_is =
-    let done = one_step_taken job a b c text tool tip step moves steps plans left takes in
-    let with_tip = subst (λ (t : Tip). AreStepsLeft job a c text (tool_after tool step moves) t steps plans) (sym tip_is) done in
-    subst (λ (t : Option ℕ). AreStepsLeft job a c text t later_tip steps plans) (sym tool_is) with_tip
+step_taken {job} {a} {b} {c} {text} {tool} {later_tool} {tip} {later_tip} {step} {planned} {moves} {steps} {plans} left same takes tool_is tip_is =
+    let done = one_step_taken job a b c text tool tip step planned steps plans left (subst (λ (ms : List Move). Takes b c (step_text job tool tip step ms)) same takes) in
+    let tip_now : later_tip ≡ tip_after_step job tool tip step planned.moves = tip_is ∙ ap (tip_after_step job tool tip step) same in
+    let tool_now : later_tool ≡ tool_after tool step planned.moves = tool_is ∙ ap (tool_after tool step) same in
+    let with_tip = subst (λ (t : Tip). AreStepsLeft job a c text (tool_after tool step planned.moves) t steps plans) (sym tip_now) done in
+    subst (λ (t : Option ℕ). AreStepsLeft job a c text t later_tip steps plans) (sym tool_now) with_tip
 
 -- a write that stopped in the lines of a step
-pub step_stopped : {T E : Type 0} (r : Result T E) {job : Job} {a b c : SinkState} {text : List ℕ} {tool : Option ℕ} {tip : Tip} {step : StepJob} {moves : List Move} {steps : List StepJob} {plans : List (List Move)}
-    → AreStepsLeft job a b text tool tip (step ∷ steps) (moves ∷ plans) → IsErr r → TakesFront b c (step_text job tool tip step moves) → Writes r a c text
-step_stopped r left stops stopped = writes-later r _ _ _ _ left.front _ left.parts left.takes (writes-first r _ _ _ _ _ stops refl stopped)
+pub step_stopped : {T E : Type 0} (r : Result T E) {job : Job} {a b c : SinkState} {text : List ℕ} {tool : Option ℕ} {tip : Tip} {step : StepJob} {planned : PlannedStep} {moves : List Move} {steps : List StepJob} {plans : List PlannedStep}
+    → AreStepsLeft job a b text tool tip (step ∷ steps) (planned ∷ plans) → moves ≡ planned.moves → IsErr r → TakesFront b c (step_text job tool tip step moves) → Writes r a c text
+step_stopped r {job} {a} {b} {c} {text} {tool} {tip} {step} {planned} {moves} left same stops stopped =
+    writes-later r _ _ _ _ left.front _ left.parts left.takes
+    (writes-first r _ _ _ _ _ stops refl (subst (λ (ms : List Move). TakesFront b c (step_text job tool tip step ms)) same stopped))

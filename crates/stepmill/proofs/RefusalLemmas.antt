@@ -37,6 +37,11 @@ pub coordinate-later : {T E : Type 0} (r : Result T E) (a b c : SinkState) (word
 coordinate-later r a b c words after passed z same taken later =
     shown-later r a b c words (signed_decimal z) after (subst (λ (k : ℤ). Takes a b (words ++ signed_decimal k)) same taken) later
 
+-- the same where nothing comes behind it
+pub coordinate-alone : {T E : Type 0} (r : Result T E) (a b : SinkState) (words : List ℕ) (passed z : ℤ)
+    → passed ≡ z → Writes r a b (words ++ signed_decimal passed) → Writes r a b (words ++ signed_decimal z)
+coordinate-alone r a b words passed z same written = subst (λ (k : ℤ). Writes r a b (words ++ signed_decimal k)) same written
+
 -- Lines.
 
 -- words and a number, with the end of the line, as they are written

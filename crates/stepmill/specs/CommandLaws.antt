@@ -10,9 +10,16 @@ CompileGoesByTheGrammar =
     → (IsCarriedOut (codes "compile" ∷ later) ↔ IsAccepted (codes "compile" ∷ later))
     × (DepartsAt (codes "compile" ∷ later) place → IsTurnedAway (codes "compile" ∷ later) place)
 
+-- and so it is behind verify
+abbrev pub VerifyGoesByTheGrammar : Type 0
+VerifyGoesByTheGrammar =
+    (later : List (List ℕ)) (place : ℕ)
+    → (IsCarriedOut (codes "verify" ∷ later) ↔ IsAccepted (codes "verify" ∷ later))
+    × (DepartsAt (codes "verify" ∷ later) place → IsTurnedAway (codes "verify" ∷ later) place)
+
 -- every other first word is turned away, whatever follows
 abbrev pub OthersAreTurnedAway : Type 0
-OthersAreTurnedAway = (word : List ℕ) (later : List (List ℕ)) → word ≢ codes "compile" → IsTurnedAway (word ∷ later) 1
+OthersAreTurnedAway = (word : List ℕ) (later : List (List ℕ)) → word ≢ codes "compile" → word ≢ codes "verify" → IsTurnedAway (word ∷ later) 1
 
 -- words are turned away at one place
 abbrev pub OnePlace : Type 0

@@ -1,8 +1,10 @@
+pub mod Answer
+pub mod CellText
 pub mod Command
 pub mod CommandLaws
-pub mod Compiled
 pub mod Exit
 pub mod FaultText
+pub mod Found
 pub mod GoodLaws
 pub mod LineLaws
 pub mod Outcome
@@ -12,3 +14,4 @@ pub mod PlanActs
 pub mod Reading
 pub mod Text
 pub mod TextLaws
+pub mod VerdictText

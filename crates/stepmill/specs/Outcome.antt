@@ -1,24 +1,33 @@
 -- MEANING: what a command ends with, a status and the texts for the output and for the errors (this project's own).
-use Rattle.std.specs.Prelude.{◌≡◌, ℕ, ◌+◌, ◌≤◌, ◌<◌, ◌⊎◌, List, [], ◌++◌, length, codes, decimal, IsTrue}
-use Rattle.sn_io.specs.Count.{count_after, Rises}
+use Rattle.std.specs.Prelude.{◌≡◌, ℕ, ◌+◌, ◌≤◌, ◌<◌, ◌⊎◌, min, List, [], ◌++◌, length, codes, decimal, IsTrue}
+use Rattle.std.specs.List.{All}
+use Rattle.sn_io.specs.Count.{count_after, last_count, Rises}
 use Rattle.sn_io.specs.Files.{FilesState}
 use Rattle.sn_io.specs.Sink.{SinkState, Takes, TakesFront}
 use Rattle.sn_outline.specs.Job.{Job}
 use Rattle.sn_outline.specs.JobRule.{IsJob}
 use Rattle.sn_outline.specs.declared.job.StepJob.{StepJob}
+use Rattle.sn_words.specs.Command.{IsCommand}
 use Rattle.sn_words.specs.Options.{Options}
+use Rattle.sn_words.specs.declared.options.Command.{Command}
+use Rattle.sn_words.specs.declared.options.Command.TheVariants.{Compile, Verify}
 use Rattle.stepmill.specs.declared.status.Status.{Status}
 use Rattle.stepmill.specs.declared.status.Status.TheVariants.{Done, PartRefused, BadWords, ReadFault, WriteFault, Memory, Uncovered, TooLong}
 use Rattle.stepmill.specs.declared.refusal.Refusal.{Refusal}
 use Rattle.stepmill.specs.declared.refusal.Refusal.TheVariants as refused
-use Rattle.stepmill.specs.declared.reading.TheConstants.{LONGEST}
-use Rattle.stepmill.specs.Part.{IsRefusedPart, IsSoundPart}
-use Rattle.stepmill.specs.Command.{IsCarriedOut, IsCompile, IsTurnedAway}
-use Rattle.stepmill.specs.FaultText.{placed_text, fault_text, part_text, memory_text, model_text, reference_text, job_text, uncovered_text}
+use Rattle.stepmill.specs.declared.reading.TheConstants.{LONGEST, LONGEST_PROGRAM}
+use Rattle.stepmill.specs.Answer.{Answer, Planned, Judged, answer_status, answer_text}
+use Rattle.stepmill.specs.Part.{IsCompiledPart, IsSoundPart, IsUncompiledPart, IsUnjudged}
+use Rattle.stepmill.specs.Command.{IsCarriedOut, IsCompile, IsTurnedAway, IsVerify}
+use Rattle.stepmill.specs.FaultText.{placed_text, fault_text, memory_text, model_text, reference_text, job_text, uncovered_text}
 use Rattle.sn_open.specs.Good.{Good}
+use Rattle.sn_open.specs.Verdict.{IsVerdict}
+use Rattle.sn_open.specs.declared.verdict.Verdict.{Verdict}
+use Rattle.sn_open.specs.declared.verdict.Verdict.TheVariants.{Yes}
 use Rattle.sn_link.specs.declared.moves.Move.{Move}
 use Rattle.sn_link.specs.Plan.{IsPlan}
 use Rattle.stepmill.specs.Text.{program_text}
+use Rattle.stepmill.specs.VerdictText.{verdict_text}
 
 -- the text of a refusal
 abbrev pub refusal_text : Refusal → List ℕ
@@ -31,7 +40,6 @@ refusal_text (refused.Model fault) = model_text fault
 refusal_text (refused.Reference fault) = reference_text fault
 refusal_text (refused.Job fault) = job_text fault
 refusal_text (refused.Uncovered feature cell) = uncovered_text feature cell
-refusal_text refused.FormNotBuilt = part_text (codes "form not built")
 
 -- the status of a refusal whose text was written
 abbrev pub status_of : Refusal → Status
@@ -44,26 +52,44 @@ status_of (refused.Model fault) = PartRefused
 status_of (refused.Reference fault) = PartRefused
 status_of (refused.Job fault) = PartRefused
 status_of (refused.Uncovered feature cell) = Uncovered
-status_of refused.FormNotBuilt = PartRefused
 
--- The words are turned away, or the part that they name is refused. The files give bytes for each opening of a name, counted from 0: the
--- part is the first opening of its name.
-abbrev pub IsRefusal : List (List ℕ) → (List ℕ → ℕ → List ℕ) → Refusal → Type 0
-IsRefusal words given (refused.Word place) = IsTurnedAway words place
-IsRefusal words given refusal = (name : List ℕ) × (o : Options) × IsCompile words name o × IsRefusedPart (given name 0) o refusal
+-- Answers and refusals, memory and devices apart. The files give bytes for each opening of a name, counted from 0: a part is
+-- the first opening of its name, and a program the second of all.
 
--- the words are carried out, the part that they name is sound, and this is its job
+-- what the words ask for is refused: they are turned away, or no program is written for the part, or no verdict is given
+pub data IsRefusal (words : List (List ℕ)) (given : List ℕ → ℕ → List ℕ) (refusal : Refusal) : Type 0 where
+  turned_away : (place : ℕ) → IsTurnedAway words place → refusal ≡ refused.Word place → IsRefusal words given refusal
+  uncompiled : (part : List ℕ) (o : Options) → IsCompile words part o → IsUncompiledPart (given part 0) o refusal → IsRefusal words given refusal
+  unjudged : (part program : List ℕ) (o : Options) → IsVerify words part program o → IsUnjudged (given part 0) (given program 1) o refusal
+      → IsRefusal words given refusal
+
+-- the words ask for the program of a part that is compiled, and this is its job
 pub record IsJobOf (words : List (List ℕ)) (given : List ℕ → ℕ → List ℕ) (job : Job) : Type 0 where
   pub name : List ℕ
   pub options : Options
   pub command : IsCompile words name options
-  pub part : IsSoundPart (given name 0) options job
+  pub part : IsCompiledPart (given name 0) options job
 
--- The status, the text for the output and the text for the errors, memory and devices apart: the program of the job and
--- no message, or no program and the message of a refusal.
+-- the words ask for the verdict on a program for a sound part, which is not too long; these are the job and the program
+pub record IsCaseOf (words : List (List ℕ)) (given : List ℕ → ℕ → List ℕ) (job : Job) (program : List ℕ) : Type 0 where
+  pub part_name : List ℕ
+  pub name : List ℕ
+  pub options : Options
+  pub command : IsVerify words part_name name options
+  pub part : IsSoundPart (given part_name 0) options job
+  pub program_is : program ≡ given name 1
+  pub short : length program ≤ LONGEST_PROGRAM
+
+-- what the words ask for
+abbrev pub IsAnswer : List (List ℕ) → (List ℕ → ℕ → List ℕ) → Answer → Type 0
+IsAnswer words given (Planned job plan) = IsJobOf words given job × IsPlan job plan
+IsAnswer words given (Judged job program verdict) = IsCaseOf words given job program × IsVerdict job program verdict
+
+-- The status, the text for the output and the text for the errors: those of the answer and no message, or no text and the
+-- message of a refusal.
 pub data IsOutcome (words : List (List ℕ)) (given : List ℕ → ℕ → List ℕ) (status : Status) (text message : List ℕ) : Type 0 where
-  compiled : (job : Job) (plan : List (StepJob × List Move)) → IsJobOf words given job → IsPlan job plan
-      → status ≡ Done → text ≡ program_text job plan → message ≡ [] → IsOutcome words given status text message
+  answered : (answer : Answer) → IsAnswer words given answer
+      → status ≡ answer_status answer → text ≡ answer_text answer → message ≡ [] → IsOutcome words given status text message
   turned_down : (refusal : Refusal) → IsRefusal words given refusal
       → status ≡ status_of refusal → text ≡ [] → message ≡ refusal_text refusal → IsOutcome words given status text message
 
@@ -79,45 +105,101 @@ pub record Ends (words : List (List ℕ)) (given : List ℕ → ℕ → List ℕ
   pub written : Takes out out_after text
   pub told : Takes err err_after message
 
--- a sound part was read of a name, and this is its job: its bytes are those that the files told, where they tell any
-pub record IsReadOf (files : FilesState) (name : List ℕ) (o : Options) (job : Job) : Type 0 where
+-- What was done, whether the files tell their content or not.
+
+-- bytes were read of a name, and this is so of them: they are those that the files told, where they tell any
+pub record IsReadOf (files : FilesState) (name : List ℕ) (P : List ℕ → Type 0) : Type 0 where
   pub bytes : List ℕ
   pub content : IsTrue files.tells → bytes ≡ files.given name 0
-  pub sound : IsSoundPart bytes o job
+  pub holds : P bytes
 
--- What is known of a job and its plan before anything is written, whether the files tell their content or not: the words
--- are carried out, a sound part was read of the name in them, and these are its job, that keeps the rule of jobs, and its plan.
+-- The words ask for the program of a part; one that is compiled was read of the name in them, these are its job, that keeps
+-- the rule of jobs, and its plan, and the program of that plan is good for the job.
 pub record IsPrepared (words : List (List ℕ)) (files : FilesState) (job : Job) (plan : List (StepJob × List Move)) : Type 0 where
   pub name : List ℕ
   pub options : Options
   pub command : IsCompile words name options
-  pub read : IsReadOf files name options job
+  pub read : IsReadOf files name (λ bytes. IsCompiledPart bytes options job)
   pub rule : IsJob job
   pub planned : IsPlan job plan
+  pub good : Good job (program_text job plan)
 
--- The words were carried out: the output took the program of the job, that program is good for the job, and the errors
--- are untouched.
-pub record Compiles (words : List (List ℕ)) (files : FilesState) (out out_after err err_after : SinkState) : Type 0 where
+-- The words ask for the verdict on a program for a part; a sound part was read of the first name in them, this is its job,
+-- that keeps the rule of jobs, the program was read of the second name, to its end, and this is the verdict on it.
+pub record IsJudged (words : List (List ℕ)) (files : FilesState) (job : Job) (program : List ℕ) (verdict : Verdict) : Type 0 where
+  pub part_name : List ℕ
+  pub name : List ℕ
+  pub options : Options
+  pub command : IsVerify words part_name name options
+  pub read : IsReadOf files part_name (λ bytes. IsSoundPart bytes options job)
+  pub rule : IsJob job
+  pub content : IsTrue files.tells → program ≡ files.given name 1
+  pub short : length program ≤ LONGEST_PROGRAM
+  pub judged : IsVerdict job program verdict
+
+-- the answer was found
+abbrev pub IsFound : List (List ℕ) → FilesState → Answer → Type 0
+IsFound words files (Planned job plan) = IsPrepared words files job plan
+IsFound words files (Judged job program verdict) = IsJudged words files job program verdict
+
+-- The words were carried out: the answer was found and gives the status, the output took its text, and the errors are
+-- untouched.
+pub record Answers (words : List (List ℕ)) (files : FilesState) (status : Status) (out out_after err err_after : SinkState) : Type 0 where
+  pub answer : Answer
+  pub found : IsFound words files answer
+  pub status_is : status ≡ answer_status answer
+  pub written : Takes out out_after (answer_text answer)
+  pub untouched : err_after ≡ err
+
+-- The output took the program of the job, and that program is good for the job.
+pub record Compiles (words : List (List ℕ)) (files : FilesState) (out out_after : SinkState) : Type 0 where
   pub job : Job
   pub plan : List (StepJob × List Move)
   pub prepared : IsPrepared words files job plan
   pub written : Takes out out_after (program_text job plan)
-  pub untouched : err_after ≡ err
-  pub good : Good job (program_text job plan)
 
--- why the file of a part was refused, with the files before and after
-abbrev pub IsRefusedFile : FilesState → FilesState → List ℕ → Options → Refusal → Type 0
-IsRefusedFile before after name o (refused.Word place) = ⊥
-IsRefusedFile before after name o refused.NotRead = Rises before.faults after.faults
-IsRefusedFile before after name o refused.NoMemory = Unit {0}
-IsRefusedFile before after name o refusal = IsTrue before.tells → IsRefusedPart (before.given name 0) o refusal
+-- The program that was read is good for the job, and the output took a yes.
+pub record Approves (words : List (List ℕ)) (files : FilesState) (out out_after : SinkState) : Type 0 where
+  pub job : Job
+  pub program : List ℕ
+  pub judged : IsJudged words files job program Yes
+  pub good : Good job program
+  pub written : Takes out out_after (codes "yes\n")
+
+-- The program that was read is not good for the job, and the output took its first fault.
+pub record Rejects (words : List (List ℕ)) (files : FilesState) (out out_after : SinkState) : Type 0 where
+  pub job : Job
+  pub program : List ℕ
+  pub verdict : Verdict
+  pub judged : IsJudged words files job program verdict
+  pub bad : ¬ Good job program
+  pub written : Takes out out_after (verdict_text verdict)
+
+-- why the file of a part was refused, with the files before and after: so is it for each command
+abbrev pub IsRefusedFile : FilesState → FilesState → List ℕ → (List ℕ → Refusal → Type 0) → Refusal → Type 0
+IsRefusedFile before after name P (refused.Word place) = ⊥
+IsRefusedFile before after name P refused.NotRead = Rises before.faults after.faults
+IsRefusedFile before after name P refused.NoMemory = Unit {0}
+IsRefusedFile before after name P refusal = IsTrue before.tells → P (before.given name 0) refusal
+
+-- at least so many bytes were read, or their count stands at its last value
+abbrev pub HasRisenBy : ℕ → ℕ → ℕ → Type 0
+HasRisenBy before after n = min (before + n) last_count ≤ after
+
+-- More bytes were read than a part may have; where a second file was opened, more than a program may have.
+pub record IsLongRead (before after : FilesState) : Type 0 where
+  pub part : HasRisenBy before.bytes after.bytes (LONGEST + 1)
+  pub program : before.opens + 1 < after.opens → HasRisenBy before.bytes after.bytes (LONGEST_PROGRAM + 1)
 
 -- Why a command was refused, with the files before and after: words that are turned away leave the files as they were, and
 -- so does memory that is wanting for the words; all other refusals are of words that are carried out.
 abbrev pub Explains : List (List ℕ) → FilesState → FilesState → Refusal → Type 0
 Explains words before after (refused.Word place) = IsTurnedAway words place × (after ≡ before)
 Explains words before after refused.NotRead = IsCarriedOut words × Rises before.faults after.faults
-Explains words before after refused.NoMemory = IsCarriedOut words ⊎ (after ≡ before)
+Explains words before after refused.NoMemory = (IsCarriedOut words × (after.opens ≤ before.opens + 1)) ⊎ (after ≡ before)
+Explains words before after refused.TooLong =
+    IsCarriedOut words × ((part program : List ℕ) (o : Options) → IsVerify words part program o → IsLongRead before after)
+    × (IsTrue before.tells → IsRefusal words before.given refused.TooLong)
 Explains words before after refusal = IsCarriedOut words × (IsTrue before.tells → IsRefusal words before.given refusal)
 
 -- The words were refused: the refusal has its cause and gives the status, the errors took its text, and the output is
@@ -129,19 +211,32 @@ pub record Refuses (words : List (List ℕ)) (before after : FilesState) (status
   pub told : Takes err err_after (refusal_text refusal)
   pub untouched : out_after ≡ out
 
--- What a command does to the files: words that are not carried out leave them as they are; a part is opened once at the most,
--- and read to its end or until one byte more than the limit was taken.
+-- how many bytes are taken at the most: of a part, and where one is verified of a program too, one more than the limit
+abbrev pub most_bytes : Command → ℕ
+most_bytes Compile = LONGEST + 1
+most_bytes Verify = LONGEST + 1 + (LONGEST_PROGRAM + 1)
+most_bytes command = 0
+
+-- and how often is read: each reading but the last takes a byte
+abbrev pub most_reads : Command → ℕ
+most_reads Compile = LONGEST + 2
+most_reads Verify = LONGEST + 2 + (LONGEST_PROGRAM + 2)
+most_reads command = 0
+
+-- What a command does to the files: words that are not carried out leave them as they are; each file is opened once at the
+-- most, and read to its end or until one byte more than its limit was taken.
 pub record ReadsOnce (words : List (List ℕ)) (before after : FilesState) : Type 0 where
   pub refused : ¬ IsCarriedOut words → after ≡ before
-  pub opens : after.opens ≤ before.opens + 1
-  pub reads : after.reads ≤ before.reads + LONGEST + 2
-  pub bytes : after.bytes ≤ count_after before.bytes (LONGEST + 1)
-  pub no_strange : IsTrue before.tells → (name : List ℕ) (o : Options) → IsCompile words name o → IsTrue (before.has_file name) → after.strange_opens ≡ before.strange_opens
+  pub opens : (o : Options) → IsCommand words o → after.opens ≤ before.opens + length o.files
+  pub reads : (o : Options) → IsCommand words o → after.reads ≤ before.reads + most_reads o.command
+  pub bytes : (o : Options) → IsCommand words o → after.bytes ≤ count_after before.bytes (most_bytes o.command)
+  pub no_strange : IsTrue before.tells → (o : Options) → IsCommand words o → All (λ name. IsTrue (before.has_file name)) o.files
+      → after.strange_opens ≡ before.strange_opens
 
--- A write failed: of the text of a refusal that has its cause, with the output untouched, or of the program of a job that
--- the words ask for, with the errors untouched. A front of that text was written.
+-- A write failed: of the text of a refusal that has its cause, with the output untouched, or of the text of an answer that was
+-- found, with the errors untouched. A front of that text was written.
 pub data Stops (words : List (List ℕ)) (before after : FilesState) (out out_after err err_after : SinkState) : Type 0 where
   at_message : (refusal : Refusal) → Explains words before after refusal
       → out_after ≡ out → TakesFront err err_after (refusal_text refusal) → Stops words before after out out_after err err_after
-  at_program : (job : Job) (plan : List (StepJob × List Move)) → IsPrepared words before job plan
-      → TakesFront out out_after (program_text job plan) → err_after ≡ err → Stops words before after out out_after err err_after
+  at_answer : (answer : Answer) → IsFound words before answer
+      → TakesFront out out_after (answer_text answer) → err_after ≡ err → Stops words before after out out_after err err_after

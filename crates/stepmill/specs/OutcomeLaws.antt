@@ -7,11 +7,26 @@ use Rattle.stepmill.specs.declared.status.Status.{Status}
 use Rattle.stepmill.specs.declared.status.Status.TheVariants.{BadWords, Memory}
 use Rattle.stepmill.specs.declared.refusal.Refusal.{Refusal}
 use Rattle.stepmill.specs.Command.{IsCarriedOut}
-use Rattle.stepmill.specs.Outcome.{IsJobOf, IsOutcome, IsRefusal, Refuses}
+use Rattle.sn_open.specs.declared.verdict.Verdict.{Verdict}
+use Rattle.stepmill.specs.Answer.{Judged}
+use Rattle.stepmill.specs.Outcome.{IsAnswer, IsCaseOf, IsJobOf, IsOutcome, IsRefusal, Refuses}
 
 -- words and files ask for one job
 abbrev pub OneJob : Type 0
 OneJob = (words : List (List ℕ)) (given : List ℕ → ℕ → List ℕ) (some other : Job) → IsJobOf words given some → IsJobOf words given other → some ≡ other
+
+-- words and files ask for one verdict
+abbrev pub OneVerdict : Type 0
+OneVerdict =
+    (words : List (List ℕ)) (given : List ℕ → ℕ → List ℕ) (some other : Job) (program another : List ℕ) (verdict last : Verdict)
+    → IsAnswer words given (Judged some program verdict) → IsAnswer words given (Judged other another last)
+    → (some ≡ other) × (program ≡ another) × (verdict ≡ last)
+
+-- words and files ask for the verdict on one program for one job
+abbrev pub OneCase : Type 0
+OneCase =
+    (words : List (List ℕ)) (given : List ℕ → ℕ → List ℕ) (some other : Job) (program another : List ℕ)
+    → IsCaseOf words given some program → IsCaseOf words given other another → (some ≡ other) × (program ≡ another)
 
 -- words and files have one refusal
 abbrev pub OneRefusal : Type 0

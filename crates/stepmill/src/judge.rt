@@ -1,12 +1,10 @@
 //! Judging the bytes of a part.
-ghost use Rattle.std.specs.Prelude.{◌≡◌, ◌≤◌, ◌⊎◌, ℕ, IfOk, IfErr, OnOk, length};
-ghost use Rattle.sn_geom.specs.declared.units.Cell.{Cell};
-ghost use Rattle.sn_open.specs.Reach.{IsFirstUnreached, IsReachable};
+ghost use Rattle.std.specs.Prelude.{◌≡◌, ◌≤◌, ◌⊎◌, ℕ, List, IfOk, IfErr, OnOk, length};
+ghost use Rattle.sn_open.specs.Reach.{IsReachable};
 ghost use Rattle.sn_raster.specs.Grid.{FitsGrid};
 ghost use Rattle.sn_words.specs.Options.{Options};
-ghost use Rattle.stepmill.specs.Part.{HaveSoundModel, IsRefusedPart, IsSoundPart, SoundOrRefused};
+ghost use Rattle.stepmill.specs.Part.{HaveSoundModel, IsRefusedPart, IsSoundPart, IsUncompiledPart, SoundOrRefused};
 
-use crate::compiled::are_compiled;
 use crate::prepare::{grid_of, prepare};
 use crate::reading::LONGEST;
 use crate::refusal::Refusal;
@@ -19,7 +17,7 @@ use sn_refs::{Checked, check};
 use sn_words::Opts;
 use std::alloc::Global;
 
-/// The job of a part that is compiled with the options, or why it is not compiled.
+/// The job of a sound part, or why the part is refused.
 pub fn judge(alloc: Global, bytes: &[u8], opts: &Opts) -> Result<Job, Refusal>
     ensures sound { IfOk result (IsSoundPart bytes.now opts.now) }
     ensures refused { IfErr result (λ refusal. (refusal ≡ Refusal.NoMemory) ⊎ IsRefusedPart bytes.now opts.now refusal) }
@@ -27,12 +25,8 @@ pub fn judge(alloc: Global, bytes: &[u8], opts: &Opts) -> Result<Job, Refusal>
     if bytes.len() > LONGEST {
         return Err(Refusal::TooLong);
     }
-    let checked = sound_model(alloc, bytes)?;
-    let job = prepare(alloc, &checked, opts)?;
-    look_at_reach(alloc, &job)?;
-    if !are_compiled(&checked, opts, &job) {
-        return Err(Refusal::FormNotBuilt);
-    }
+    let model = sound_model(alloc, bytes)?;
+    let job = prepare(alloc, &model, opts)?;
     Ok(job)
 }
 
@@ -48,11 +42,11 @@ fn sound_model(alloc: Global, bytes: &[u8]) -> Result<Checked, Refusal>
 }
 
 /// Whether the steps of a job reach each cell that has to be cut; the first that none reaches is told.
-fn look_at_reach(alloc: Global, job: &Job) -> Result<(), Refusal>
+pub fn look_at_reach(alloc: Global, job: &Job) -> Result<(), Refusal>
     requires { FitsGrid job.now }
     ensures reachable { OnOk result (IsReachable job.now) }
     ensures refused { IfErr result (λ refusal. (refusal ≡ Refusal.NoMemory)
-        ⊎ ((feature : ℕ) × (cell : Cell) × (refusal ≡ Refusal.Uncovered feature cell) × IsFirstUnreached job.now feature cell)) }
+        ⊎ ((bytes : List ℕ) (o : Options) → IsSoundPart bytes o job.now → IsUncompiledPart bytes o refusal)) }
 {
     let grid = grid_of(job);
     match first_unreached(alloc, job, &grid)? {
@@ -61,7 +55,7 @@ fn look_at_reach(alloc: Global, job: &Job) -> Result<(), Refusal>
     }
 }
 
-/// A part that is compiled is not refused.
+/// A sound part is not refused, and a part that is compiled is not left uncompiled.
 pub fn sound_or_refused()
     ensures { SoundOrRefused }
 {

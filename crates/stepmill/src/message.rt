@@ -2,6 +2,7 @@
 ghost use Rattle.std.specs.Prelude.{◌≡◌, ◌++◌, codes, decimal};
 ghost use Rattle.std.specs.Fmt.{signed_decimal};
 ghost use Rattle.sn_io.specs.Sink.{Writes};
+ghost use Rattle.stepmill.specs.CellText.{cell_text};
 ghost use Rattle.stepmill.specs.FaultText.{placed_text, lex_text, fault_text, model_text, entity_text, reference_text, job_text, frame_text, instance_text, parameter_text, part_text, uncovered_text};
 ghost use Rattle.stepmill.specs.Outcome.{refusal_text};
 
@@ -30,7 +31,6 @@ pub fn write_refusal<E: Sink>(err: &mut E, refusal: Refusal) -> Result<(), Write
         Refusal::Reference(fault) => write_reference_fault(err, fault),
         Refusal::Job(fault) => write_job_fault(err, fault),
         Refusal::Uncovered(feature, cell) => write_uncovered(err, feature, &cell),
-        Refusal::FormNotBuilt => write_part(err, b"form not built"),
     }
 }
 
@@ -60,7 +60,7 @@ fn write_lex_fault<E: Sink>(err: &mut E, fault: LexFault) -> Result<(), WriteFau
 fn write_twice<E: Sink>(err: &mut E, number: u32, at: usize) -> Result<(), WriteFault>
     ensures { Writes result (E.state err.old) (E.state err.new) (fault_text (TextFault.Twice number at)) }
 {
-    write_number(err, b"stepmill: part: #", number as usize)?;
+    write_number(err, b"stepmill: part: #", number as u64)?;
     write_place(err, b" twice at ", at)
 }
 
@@ -135,8 +135,8 @@ fn write_counts<E: Sink>(
 ) -> Result<(), WriteFault>
     ensures { Writes result (E.state err.old) (E.state err.new) (entity_text (EntFault.Count number wanted given)) }
 {
-    write_number(err, b"stepmill: part: #", number as usize)?;
-    write_number(err, b" has ", given as usize)?;
+    write_number(err, b"stepmill: part: #", number as u64)?;
+    write_number(err, b" has ", given as u64)?;
     write_place(err, b" parameters and wants ", wanted as usize)
 }
 
@@ -149,9 +149,9 @@ fn write_wrong_kind<E: Sink>(
 ) -> Result<(), WriteFault>
     ensures { Writes result (E.state err.old) (E.state err.new) (reference_text (RefFault.WrongKind number place named)) }
 {
-    write_number(err, b"stepmill: part: #", number as usize)?;
-    write_number(err, b" parameter ", place as usize)?;
-    write_number(err, b" names #", named as usize)?;
+    write_number(err, b"stepmill: part: #", number as u64)?;
+    write_number(err, b" parameter ", place as u64)?;
+    write_number(err, b" names #", named as u64)?;
     write_all(err, b" of a wrong kind\n")
 }
 
@@ -164,8 +164,8 @@ fn write_parameter<E: Sink>(
 ) -> Result<(), WriteFault>
     ensures { Writes result (E.state err.old) (E.state err.new) (parameter_text number place words.now) }
 {
-    write_number(err, b"stepmill: part: #", number as usize)?;
-    write_number(err, b" parameter ", place as usize)?;
+    write_number(err, b"stepmill: part: #", number as u64)?;
+    write_number(err, b" parameter ", place as u64)?;
     write_line(err, words)
 }
 
@@ -173,7 +173,7 @@ fn write_parameter<E: Sink>(
 fn write_instance<E: Sink>(err: &mut E, number: u32, words: &[u8]) -> Result<(), WriteFault>
     ensures { Writes result (E.state err.old) (E.state err.new) (instance_text number words.now) }
 {
-    write_number(err, b"stepmill: part: #", number as usize)?;
+    write_number(err, b"stepmill: part: #", number as u64)?;
     write_line(err, words)
 }
 
@@ -196,35 +196,46 @@ fn write_line<E: Sink>(err: &mut E, words: &[u8]) -> Result<(), WriteFault>
 fn write_uncovered<E: Sink>(err: &mut E, feature: u32, cell: &Cell) -> Result<(), WriteFault>
     ensures { Writes result (E.state err.old) (E.state err.new) (uncovered_text feature cell.now) }
 {
-    write_number(err, b"stepmill: uncovered #", feature as usize)?;
-    write_coordinate(err, b" i ", cell.i)?;
-    write_coordinate(err, b" j ", cell.j)?;
-    write_coordinate(err, b" z ", cell.z)?;
+    write_number(err, b"stepmill: uncovered #", feature as u64)?;
+    write_cell(err, cell)?;
     write_all(err, b"\n")
-}
-
-/// Writes words and a whole number, which may be negative.
-fn write_coordinate<E: Sink>(err: &mut E, words: &[u8], number: i32) -> Result<(), WriteFault>
-    ensures { Writes result (E.state err.old) (E.state err.new) (words.now ++ signed_decimal number) }
-{
-    let mut buffer = Buffer::new();
-    write_all(err, words)?;
-    write_all(err, buffer.format(number).as_bytes())
 }
 
 /// Writes words, a place and the end of the line.
 fn write_place<E: Sink>(err: &mut E, words: &[u8], place: usize) -> Result<(), WriteFault>
     ensures { Writes result (E.state err.old) (E.state err.new) (placed_text words.now place) }
 {
-    write_number(err, words, place)?;
+    write_number(err, words, place as u64)?;
     write_all(err, b"\n")
 }
 
-/// Writes words and a number.
-fn write_number<E: Sink>(err: &mut E, words: &[u8], number: usize) -> Result<(), WriteFault>
-    ensures { Writes result (E.state err.old) (E.state err.new) (words.now ++ decimal number) }
+/// Writes the column, the row and the height of a cell, each behind its letter.
+pub(crate) fn write_cell<S: Sink>(out: &mut S, cell: &Cell) -> Result<(), WriteFault>
+    ensures { Writes result (S.state out.old) (S.state out.new) (cell_text cell.now) }
+{
+    write_coordinate(out, b" i ", cell.i)?;
+    write_coordinate(out, b" j ", cell.j)?;
+    write_coordinate(out, b" z ", cell.z)
+}
+
+/// Writes words and a whole number, which may be negative.
+fn write_coordinate<S: Sink>(out: &mut S, words: &[u8], number: i32) -> Result<(), WriteFault>
+    ensures { Writes result (S.state out.old) (S.state out.new) (words.now ++ signed_decimal number) }
 {
     let mut buffer = Buffer::new();
-    write_all(err, words)?;
-    write_all(err, buffer.format(number).as_bytes())
+    write_all(out, words)?;
+    write_all(out, buffer.format(number).as_bytes())
+}
+
+/// Writes words and a number.
+pub(crate) fn write_number<S: Sink>(
+    out: &mut S,
+    words: &[u8],
+    number: u64,
+) -> Result<(), WriteFault>
+    ensures { Writes result (S.state out.old) (S.state out.new) (words.now ++ decimal number) }
+{
+    let mut buffer = Buffer::new();
+    write_all(out, words)?;
+    write_all(out, buffer.format(number).as_bytes())
 }

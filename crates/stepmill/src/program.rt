@@ -3,6 +3,7 @@ ghost use Rattle.std.specs.Prelude.{◌≡◌, OnOk, None, Some, length};
 ghost use Rattle.sn_io.specs.Sink.{Writes};
 ghost use Rattle.sn_gwrite.specs.Kept.{IsBegun, IsTurning, begun, unused};
 ghost use Rattle.sn_link.specs.Moves.{tip_after_step, tip_for, tool_after};
+ghost use Rattle.sn_link.specs.Counts.{moves_of};
 ghost use Rattle.sn_link.specs.Plan.{with_moves};
 ghost use Rattle.stepmill.specs.PlanActs.{AreWritable, IsNumbered, IsWritable, IsWritableProgram};
 ghost use Rattle.stepmill.specs.Text.{program_text, setting_text, step_text, steps_text};
@@ -11,14 +12,18 @@ use crate::writer::write_moves;
 use sn_geom::{Pt3, Tip, Um};
 use sn_gwrite::Emitter;
 use sn_io::{Sink, WriteFault};
-use sn_link::{Move, Moves};
+use sn_link::{Move, PlannedStep};
 use sn_outline::{Job, StepJob};
 
 /// Writes the program of a job, with the moves of its steps in their order.
-pub fn write_program<S: Sink>(sink: &mut S, job: &Job, plans: &[Moves]) -> Result<(), WriteFault>
+pub fn write_program<S: Sink>(
+    sink: &mut S,
+    job: &Job,
+    plans: &[PlannedStep],
+) -> Result<(), WriteFault>
     requires each { length plans.now ≡ length job.now.steps }
-    requires writable { IsWritableProgram job.now (with_moves job.now.steps plans.now) }
-    ensures { Writes result (S.state sink.old) (S.state sink.new) (program_text job.now (with_moves job.now.steps plans.now)) }
+    requires writable { IsWritableProgram job.now (with_moves job.now.steps (moves_of plans.now)) }
+    ensures { Writes result (S.state sink.old) (S.state sink.new) (program_text job.now (with_moves job.now.steps (moves_of plans.now))) }
 {
     let mut emitter = Emitter::new();
     emitter.head(sink, job.tools())?;
@@ -31,17 +36,17 @@ fn write_steps<S: Sink>(
     emitter: &mut Emitter,
     sink: &mut S,
     job: &Job,
-    plans: &[Moves],
+    plans: &[PlannedStep],
 ) -> Result<(), WriteFault>
     requires head { emitter.old ≡ begun unused }
     requires each { length plans.now ≡ length job.now.steps }
-    requires writable { AreWritable job.now None Tip.Unknown (with_moves job.now.steps plans.now) }
-    ensures writes { Writes result (S.state sink.old) (S.state sink.new) (steps_text job.now None Tip.Unknown (with_moves job.now.steps plans.now)) }
+    requires writable { AreWritable job.now None Tip.Unknown (with_moves job.now.steps (moves_of plans.now)) }
+    ensures writes { Writes result (S.state sink.old) (S.state sink.new) (steps_text job.now None Tip.Unknown (with_moves job.now.steps (moves_of plans.now))) }
     ensures begun { OnOk result (IsBegun emitter.new) }
 {
     let mut tool = None;
-    for (step, moves) in job.steps().iter().zip(plans) {
-        let moves = moves.as_slice();
+    for (step, planned) in job.steps().iter().zip(plans) {
+        let moves = planned.moves.as_slice();
         write_step(emitter, sink, job, tool, step, moves)?;
         tool = tool_left(tool, step, moves);
     }

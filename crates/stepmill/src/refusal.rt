@@ -1,4 +1,4 @@
-//! Why no program is written, and what is said of it.
+//! Why there is no answer, and what is said of it.
 ghost use Rattle.std.specs.Prelude.{◌≡◌, ◌≢◌, ◌⊎◌};
 ghost use Rattle.sn_io.specs.Sink.{Takes, TakesFront};
 ghost use Rattle.stepmill.specs.Outcome.{refusal_text, status_of};
@@ -15,16 +15,16 @@ use sn_refs::RefFault;
 use sn_words::WordFault;
 use std::alloc::AllocError;
 
-/// Why no program is written.
+/// Why there is no answer: no program is written, or no verdict is given.
 #[derive(Clone, Copy, Debug, PartialEq, Eq)]
 pub enum Refusal {
     /// The word at a place, counted from 1, cannot stand there.
     Word(usize),
-    /// The part's file was not read.
+    /// The part's file or the program's was not read.
     NotRead,
     /// Memory was wanting.
     NoMemory,
-    /// The part's file is too long.
+    /// The part's file or the program's is too long.
     TooLong,
     /// The part's text is no part text.
     Text(TextFault),
@@ -36,8 +36,6 @@ pub enum Refusal {
     Job(JobFault),
     /// No step opens this cell of the feature with this instance number, which has to be cut.
     Uncovered(u32, Cell),
-    /// A step is of a form that is not compiled yet.
-    FormNotBuilt,
 }
 
 /// Why a text is no part text, each with the offset at which it shows.
@@ -180,11 +178,8 @@ impl Refusal {
             Refusal::NotRead => Status::ReadFault,
             Refusal::NoMemory => Status::Memory,
             Refusal::TooLong => Status::TooLong,
-            Refusal::Text(_)
-            | Refusal::Model(_)
-            | Refusal::Reference(_)
-            | Refusal::Job(_)
-            | Refusal::FormNotBuilt => Status::PartRefused,
+            Refusal::Text(_) | Refusal::Model(_) | Refusal::Reference(_) | Refusal::Job(_) =>
+                Status::PartRefused,
             Refusal::Uncovered(..) => Status::Uncovered,
         }
     }

@@ -1,36 +1,32 @@
 //! The top call.
-ghost use Rattle.std.specs.Prelude.{◌≡◌, ◌≢◌, ◌⊎◌, ◌+◌, ◌≤◌, IsTrue, IfOk, IfErr, length};
-ghost use Rattle.std.specs.List.{All};
-ghost use Rattle.sn_io.specs.Count.{Rises, count_after};
-ghost use Rattle.sn_io.specs.Sink.{Takes, TakesFront};
+ghost use Rattle.std.specs.Prelude.{◌≡◌, ◌≢◌, ◌⊎◌, ◌↔◌, List, ℕ, IsTrue, IfOk, IfErr};
+ghost use Rattle.sn_io.specs.Count.{Rises};
+ghost use Rattle.sn_io.specs.Sink.{Takes, TakesFront, Writes};
 ghost use Rattle.sn_open.specs.Good.{Good};
-ghost use Rattle.sn_open.specs.Reach.{IsReachable};
 ghost use Rattle.sn_outline.specs.Job.{Job as JobContent};
-ghost use Rattle.sn_outline.specs.JobRule.{IsJob};
-ghost use Rattle.sn_raster.specs.Grid.{FitsGrid};
-ghost use Rattle.sn_link.specs.Plan.{HasPlan, IsPlan, with_moves};
-ghost use Rattle.stepmill.specs.PlanActs.{IsWritableProgram};
-ghost use Rattle.stepmill.specs.Outcome.{Compiles, Ends, Explains, IsJobOf, IsOfDevices, IsPrepared, IsReadOf, IsRefusedFile, ReadsOnce, Refuses, Stops};
-ghost use Rattle.stepmill.specs.Text.{program_text};
+ghost use Rattle.sn_words.specs.Options.{Options};
+ghost use Rattle.stepmill.specs.Command.{IsCompile, IsVerify};
+ghost use Rattle.stepmill.specs.Found.{CanBeWritten, IsFoundFor, found_status, found_text};
+ghost use Rattle.stepmill.specs.Outcome.{Answers, Approves, Compiles, Ends, Explains, IsCaseOf, IsJobOf, IsOfDevices, ReadsOnce, Refuses, Rejects, Stops};
 
 use crate::command::read_command;
-use crate::judge::{judge, sound_or_refused};
-use crate::laws::good::goods;
-use crate::numbers::instance_numbers;
-use crate::prepare::grid_of;
+use crate::compile::{Planned, compile};
+use crate::judge::sound_or_refused;
+use crate::laws::outcome::one_case;
 use crate::program::write_program;
-use crate::reading::{LONGEST, read_part};
 use crate::refusal::{Refusal, refuse};
 use crate::status::Status;
-use sn_geom::Memory;
+use crate::verdict_message::write_verdict;
+use crate::verify::verify;
 use sn_io::{Files, Sink, WriteFault};
-use sn_link::{Plans, plan};
-use sn_outline::Job;
+use sn_open::Verdict;
+use sn_open::verdict_laws::verdicts;
 use sn_words::laws::one_meaning;
-use sn_words::{Opts, Words};
+use sn_words::{Command, Words};
 use std::alloc::Global;
 
-/// Carries out the command that the words are: reads from the files, and writes a program to `out` or a refusal to `err`.
+/// Carries out the command that the words are: reads from the files, and writes a program or a verdict to `out`, or a refusal to
+/// `err`.
 pub fn run<F: Files, S: Sink, E: Sink>(
     alloc: Global,
     words: &Words,
@@ -44,16 +40,32 @@ pub fn run<F: Files, S: Sink, E: Sink>(
         (S.state out.old) (S.state out.new) (E.state err.old) (E.state err.new) }
 
     // What was written is the program of the part's job, and it is good for that job.
-    ensures good { result ≡ Status.Done
-        → Compiles words.now (F.state files.old)
+    ensures compiles { result ≡ Status.Done → (part : List ℕ) (o : Options) → IsCompile words.now part o
+        → Compiles words.now (F.state files.old) (S.state out.old) (S.state out.new) }
+
+    // A yes is told of a program that is good for the part's job, and a no of one that is not.
+    ensures approves { result ≡ Status.Done → (part program : List ℕ) (o : Options) → IsVerify words.now part program o
+        → Approves words.now (F.state files.old) (S.state out.old) (S.state out.new) }
+    ensures rejects { result ≡ Status.No → Rejects words.now (F.state files.old) (S.state out.old) (S.state out.new) }
+
+    // Done and No come with the answer alone.
+    ensures answers { (result ≡ Status.Done) ⊎ (result ≡ Status.No)
+        → Answers words.now (F.state files.old) result
         (S.state out.old) (S.state out.new) (E.state err.old) (E.state err.new) }
 
-    // A sound part is compiled, unless memory is wanting or a device fails.
+    // A part that is compiled has its program written, and a program for a sound part is judged, unless memory is wanting or a
+    // device fails.
     ensures completes { IsTrue (F.state files.old).tells → (job : JobContent)
         → IsJobOf words.now (F.state files.old).given job → (result ≡ Status.Done) ⊎ IsOfDevices result }
+    ensures judges { IsTrue (F.state files.old).tells → (job : JobContent) (program : List ℕ)
+        → IsCaseOf words.now (F.state files.old).given job program
+        → ((result ≡ Status.Done) ⊎ (result ≡ Status.No)) ⊎ IsOfDevices result }
+    ensures exactly { IsTrue (F.state files.old).tells → (job : JobContent) (program : List ℕ)
+        → IsCaseOf words.now (F.state files.old).given job program → ¬ IsOfDevices result
+        → (result ≡ Status.Done) ↔ Good job program }
 
     // Each refusal has its cause, and is told.
-    ensures refused { result ≢ Status.Done → result ≢ Status.WriteFault
+    ensures refused { result ≢ Status.Done → result ≢ Status.No → result ≢ Status.WriteFault
         → Refuses words.now (F.state files.old) (F.state files.new) result
         (S.state out.old) (S.state out.new) (E.state err.old) (E.state err.new) }
 
@@ -69,76 +81,75 @@ pub fn run<F: Files, S: Sink, E: Sink>(
 {
     sound_or_refused();
     one_meaning();
-    match prepare(alloc, words, files) {
-        Ok(planned) => write(out, &planned),
+    verdicts();
+    one_case();
+    match find(alloc, words, files) {
+        Ok(found) => write(out, &found),
         Err(refusal) => refuse(err, refusal),
     }
 }
 
-/// A job with the moves of its steps, in the order of the steps.
+/// What was found for a command: the job and the moves of the program to write, or the verdict to tell.
 #[derive(Drop)]
-struct Planned {
-    job: Job,
-    moves: Plans,
+enum Found {
+    Plan(Planned),
+    Verdict(Verdict),
 }
 
-fn write<S: Sink>(out: &mut S, planned: &Planned) -> Status
-    requires each { length planned.now.moves ≡ length planned.now.job.steps }
-    requires writable { IsWritableProgram planned.now.job (with_moves planned.now.job.steps planned.now.moves) }
-    ensures either { (result ≡ Status.Done) ⊎ (result ≡ Status.WriteFault) }
-    ensures done { result ≢ Status.WriteFault → (result ≡ Status.Done)
-        × Takes (S.state out.old) (S.state out.new) (program_text planned.now.job (with_moves planned.now.job.steps planned.now.moves)) }
-    ensures stopped { result ≡ Status.WriteFault
-        → TakesFront (S.state out.old) (S.state out.new) (program_text planned.now.job (with_moves planned.now.job.steps planned.now.moves)) }
-{
-    match write_program(out, &planned.job, planned.moves.as_slice()) {
-        Ok(()) => Status::Done,
-        Err(WriteFault) => Status::WriteFault,
-    }
-}
-
-fn prepare<F: Files>(alloc: Global, words: &Words, files: &mut F) -> Result<Planned, Refusal>
-    ensures prepared { IfOk result (λ planned. IsPrepared words.now (F.state files.old) planned.job (with_moves planned.job.steps planned.moves)) }
-    ensures each { IfOk result (λ planned. length planned.moves ≡ length planned.job.steps) }
-    ensures writable { IfOk result (λ planned. IsWritableProgram planned.job (with_moves planned.job.steps planned.moves)) }
-    ensures good { IfOk result (λ planned. Good planned.job (program_text planned.job (with_moves planned.job.steps planned.moves))) }
+/// Finds what the words ask for, or why there is none.
+fn find<F: Files>(alloc: Global, words: &Words, files: &mut F) -> Result<Found, Refusal>
+    ensures found { IfOk result (IsFoundFor words.now (F.state files.old)) }
     ensures explains { IfErr result (Explains words.now (F.state files.old) (F.state files.new)) }
     ensures reads_once { ReadsOnce words.now (F.state files.old) (F.state files.new) }
 {
     one_meaning();
     let opts = read_command(alloc, words)?;
-    let job = load(alloc, files, opts.files.get(0), &opts)?;
-    Ok(with_plan(alloc, job)?)
+    match opts.command {
+        Command::Verify => {
+            let part = opts.files.get(0);
+            let program = opts.files.get(1);
+            let verdict = verify(alloc, files, part, program, &opts)?;
+            Ok(Found::Verdict(verdict))
+        }
+        _ => {
+            let part = opts.files.get(0);
+            let planned = compile(alloc, files, part, &opts)?;
+            Ok(Found::Plan(planned))
+        }
+    }
 }
 
-/// The job with the moves of its steps.
-fn with_plan(alloc: Global, job: Job) -> Result<Planned, Memory>
-    requires fits { FitsGrid job }
-    requires built { All HasPlan job.steps }
-    requires reachable { IsReachable job }
-    ensures same { IfOk result (λ planned. planned.job ≡ job) }
-    ensures rule { IfOk result (λ planned. IsJob planned.job) }
-    ensures planned { IfOk result (λ planned. IsPlan planned.job (with_moves planned.job.steps planned.moves)) }
-    ensures each { IfOk result (λ planned. length planned.moves ≡ length planned.job.steps) }
-    ensures writable { IfOk result (λ planned. IsWritableProgram planned.job (with_moves planned.job.steps planned.moves)) }
-    ensures good { IfOk result (λ planned. Good planned.job (program_text planned.job (with_moves planned.job.steps planned.moves))) }
+/// Writes the text of what was found, and gives its status.
+fn write<S: Sink>(out: &mut S, found: &Found) -> Status
+    requires { CanBeWritten found.now }
+    ensures either { (result ≡ found_status found.now) ⊎ (result ≡ Status.WriteFault) }
+    ensures done { result ≢ Status.WriteFault
+        → (result ≡ found_status found.now) × Takes (S.state out.old) (S.state out.new) (found_text found.now) }
+    ensures stopped { result ≡ Status.WriteFault → TakesFront (S.state out.old) (S.state out.new) (found_text found.now) }
 {
-    job.rule();
-    instance_numbers(&job);
-    goods();
-    let moves = plan(alloc, &job, &grid_of(&job))?;
-    Ok(Planned { job, moves })
+    match write_text(out, found) {
+        Ok(()) => found.status(),
+        Err(WriteFault) => Status::WriteFault,
+    }
 }
 
-fn load<F: Files>(alloc: Global, files: &mut F, name: &[u8], opts: &Opts) -> Result<Job, Refusal>
-    ensures sound { IfOk result (IsReadOf (F.state files.old) name.now opts.now) }
-    ensures refused { IfErr result (IsRefusedFile (F.state files.old) (F.state files.new) name.now opts.now) }
-    ensures opens { (F.state files.new).opens ≡ count_after (F.state files.old).opens 1 }
-    ensures reads { (F.state files.new).reads ≤ (F.state files.old).reads + LONGEST + 2 }
-    ensures bytes { (F.state files.new).bytes ≤ count_after (F.state files.old).bytes (LONGEST + 1) }
-    ensures no_strange { IsTrue (F.state files.old).tells → IsTrue ((F.state files.old).has_file name.now)
-        → (F.state files.new).strange_opens ≡ (F.state files.old).strange_opens }
+fn write_text<S: Sink>(out: &mut S, found: &Found) -> Result<(), WriteFault>
+    requires { CanBeWritten found.now }
+    ensures { Writes result (S.state out.old) (S.state out.new) (found_text found.now) }
 {
-    let bytes = read_part(alloc, files, name)?;
-    judge(alloc, bytes.as_slice(), opts)
+    match found {
+        Found::Plan(planned) => write_program(out, &planned.job, planned.moves.as_slice()),
+        Found::Verdict(verdict) => write_verdict(out, *verdict),
+    }
+}
+
+impl Found {
+    fn status(&self) -> Status
+        ensures { result ≡ found_status self.now }
+    {
+        match self {
+            Found::Plan(_) => Status::Done,
+            Found::Verdict(verdict) => Status::of_verdict(*verdict),
+        }
+    }
 }

@@ -1,8 +1,10 @@
 //! How a command ends.
 ghost use Rattle.std.specs.Prelude.{◌≡◌, ◌≢◌};
+ghost use Rattle.stepmill.specs.Answer.{status_of_verdict};
 ghost use Rattle.stepmill.specs.Exit.{exit_status, final_status};
 
 use sn_geom::Memory;
+use sn_open::Verdict;
 use std::io::ErrorKind;
 
 /// The status of a command.
@@ -20,11 +22,11 @@ pub enum Status {
     WriteFault = 4,
     /// Memory was wanting.
     Memory = 5,
-    /// The verdict is no. Not answered yet.
+    /// The verdict is no.
     No = 6,
-    /// A cell that has to be cut cannot be reached. Not answered yet.
+    /// A cell that has to be cut cannot be reached.
     Uncovered = 7,
-    /// The part is too long.
+    /// The part or the program is too long.
     TooLong = 8,
 }
 
@@ -44,6 +46,17 @@ impl Status {
             self
         } else {
             Status::WriteFault
+        }
+    }
+
+    /// The status of a verdict that was told.
+    pub fn of_verdict(verdict: Verdict) -> Status
+        ensures { result ≡ status_of_verdict verdict }
+    {
+        match verdict {
+            Verdict::Yes => Status::Done,
+            Verdict::Line(..) | Verdict::NoEnd | Verdict::Missing(_) | Verdict::Uncovered(..) =>
+                Status::No,
         }
     }
 

@@ -108,26 +108,39 @@ M2
 %
 ";
 
-/// The calls of the sample's file: the opening, the reading of its one chunk, and the reading at its end.
+/// The command over the sample part and a program, at this pitch.
+const VERIFY: &str = "verify one.stp one.ngc --cell 1000";
+
+/// The calls of a file that is read in one piece: the opening, the reading of that piece, and the reading at its end.
 const CALLS: u64 = 3;
 
 /// The writes of the sample's program.
 const WRITES: u64 = 11;
 
-/// A command over one file `one.stp`, a call of which and a write of whose output may fail: its status, output and errors.
-fn ends(
+/// How a command over the files `one.stp` and `one.ngc` ends: its status, output and errors.
+#[derive(Drop)]
+struct End {
+    status: Status,
+    out: Vec<u8>,
+    err: Vec<u8>,
+}
+
+/// A command over a part and a program, a call of whose files and a write of whose output may fail.
+fn end_of(
     rt: &HostRuntime,
     line: &str,
-    part: &[u8],
+    part: &str,
+    program: &str,
     failing: Option<u64>,
     stopping: Option<u64>,
-) -> Result<(Status, Vec<u8>, Vec<u8>), Fail> {
+) -> Result<End, Fail> {
     let mut words = Words::new(rt.alloc());
     for word in line.split(' ') {
         words.push(word.as_bytes())?;
     }
     let mut files = MemFiles::new(rt.alloc());
-    files.add(b"one.stp", part)?;
+    files.add(b"one.stp", part.as_bytes())?;
+    files.add(b"one.ngc", program.as_bytes())?;
     let mut out = MemSink::new(rt.alloc(), 1_000)?;
     let mut err = MemSink::new(rt.alloc(), 1_000)?;
     if let Some(call) = failing {
@@ -137,63 +150,128 @@ fn ends(
         out.fail_at(call)?;
     }
     let status = run(rt.alloc(), &words, &mut files, &mut out, &mut err);
-    let written = Vec::from_slice(rt.alloc(), out.bytes())?;
-    let told = Vec::from_slice(rt.alloc(), err.bytes())?;
-    Ok((status, written, told))
+    let out = Vec::from_slice(rt.alloc(), out.bytes())?;
+    let err = Vec::from_slice(rt.alloc(), err.bytes())?;
+    Ok(End { status, out, err })
 }
 
-/// The command ends with this status, output and errors over the part.
-fn ends_with(
-    rt: &HostRuntime,
-    part: &[u8],
-    status: Status,
-    out: &str,
-    err: &str,
-) -> Result<(), Fail> {
-    let (ended, written, told) = ends(rt, COMPILE, part, None, None)?;
-    if ended != status {
+/// The end is one with this status, output and errors.
+fn is_end(end: &End, status: Status, out: &str, err: &str) -> Result<(), Fail> {
+    if end.status != status {
         return Err("another status".into());
     }
-    if written.as_slice() != out.as_bytes() {
+    if end.out.as_slice() != out.as_bytes() {
         return Err("another output".into());
     }
-    if told.as_slice() != err.as_bytes() {
+    if end.err.as_slice() != err.as_bytes() {
         return Err("another message".into());
     }
     Ok(())
 }
 
+/// The part is compiled, or is refused.
+fn compiles_to(
+    rt: &HostRuntime,
+    part: &str,
+    status: Status,
+    out: &str,
+    err: &str,
+) -> Result<(), Fail> {
+    let end = end_of(rt, COMPILE, part, "", None, None)?;
+    is_end(&end, status, out, err)
+}
+
+/// The verdict on the sample's program, a piece of which is replaced by another.
+fn is_judged(
+    rt: &HostRuntime,
+    piece: &str,
+    other: &str,
+    status: Status,
+    out: &str,
+) -> Result<(), Fail> {
+    let program = PROGRAM.replace(rt.alloc(), piece, other)?;
+    let end = end_of(rt, VERIFY, SAMPLE, program.as_str(), None, None)?;
+    is_end(&end, status, out, "")
+}
+
 #[test]
 fn parts_are_compiled(rt: HostRuntime) -> Result<(), Fail> {
-    ends_with(&rt, SAMPLE.as_bytes(), Status::Done, PROGRAM, "")?;
+    compiles_to(&rt, SAMPLE, Status::Done, PROGRAM, "")?;
     let longer = SAMPLE.replace(rt.alloc(), "(#4)", "(#4,#39,#30)")?;
     let steps = longer.replace(rt.alloc(), "ENDSEC;\nEND", MORE_STEPS)?;
-    ends_with(&rt, steps.as_bytes(), Status::Done, THREE_STEPS, "")
+    compiles_to(&rt, steps.as_str(), Status::Done, THREE_STEPS, "")
 }
 
 #[test]
 fn parts_are_refused(rt: HostRuntime) -> Result<(), Fail> {
     let thin = SAMPLE.replace(rt.alloc(), "DIMENSION(8.", "DIMENSION(1.")?;
     let uncovered = "stepmill: uncovered #8 i 10 j 9 z 4000\n";
-    ends_with(&rt, thin.as_bytes(), Status::Uncovered, "", uncovered)
+    compiles_to(&rt, thin.as_str(), Status::Uncovered, "", uncovered)
 }
 
 #[test]
-fn faults_of_devices_end_it(rt: HostRuntime) -> Result<(), Fail> {
+fn programs_are_judged(rt: HostRuntime) -> Result<(), Fail> {
+    for (piece, other, out) in [
+        (
+            "G1 Z4.000",
+            "G0 Z4.000",
+            "no: line 12: rapid in material at i 10 j 6 z 4000\n",
+        ),
+        (
+            "G0 Z11.000\nG1 Z4.000\n",
+            "",
+            "no: #8 uncovered at i 10 j 9 z 4000\n",
+        ),
+        ("M2\n", "", "no: no end\n"),
+        (
+            "F300\nG0 Z20.000",
+            "F300\nG0 X10.000",
+            "no: line 9: lost axis\n",
+        ),
+        (PROGRAM, "", "no: no end\n"),
+    ] {
+        is_judged(&rt, piece, other, Status::No, out)?;
+    }
+    is_judged(&rt, PROGRAM, PROGRAM, Status::Done, "yes\n")
+}
+
+#[test]
+fn unreachable_parts_are_judged(rt: HostRuntime) -> Result<(), Fail> {
+    let thin = SAMPLE.replace(rt.alloc(), "DIMENSION(8.", "DIMENSION(1.")?;
+    let end = end_of(&rt, VERIFY, thin.as_str(), PROGRAM, None, None)?;
+    is_end(
+        &end,
+        Status::No,
+        "no: #8 uncovered at i 10 j 9 z 4000\n",
+        "",
+    )?;
+    let short = end_of(&rt, "verify one.stp", SAMPLE, PROGRAM, None, None)?;
+    is_end(&short, Status::BadWords, "", "stepmill: word 3\n")
+}
+
+#[test]
+fn faults_of_files_end_it(rt: HostRuntime) -> Result<(), Fail> {
     for call in 1..=CALLS {
-        let (ended, written, told) = ends(&rt, COMPILE, SAMPLE.as_bytes(), Some(call), None)?;
-        assert_eq!(rt; ended, Status::ReadFault);
-        assert_eq!(rt; written.as_slice(), b"".as_slice());
-        assert_eq!(rt; told.as_slice(), b"stepmill: read fault\n".as_slice());
+        let end = end_of(&rt, COMPILE, SAMPLE, "", Some(call), None)?;
+        is_end(&end, Status::ReadFault, "", "stepmill: read fault\n")?;
     }
-    for call in 1..=WRITES {
-        let (ended, written, told) = ends(&rt, COMPILE, SAMPLE.as_bytes(), None, Some(call))?;
-        assert_eq!(rt; ended, Status::WriteFault);
-        assert!(rt; PROGRAM.as_bytes().starts_with(written.as_slice()));
-        assert_eq!(rt; told.as_slice(), b"".as_slice());
+    for call in 1..=2 * CALLS {
+        let end = end_of(&rt, VERIFY, SAMPLE, PROGRAM, Some(call), None)?;
+        is_end(&end, Status::ReadFault, "", "stepmill: read fault\n")?;
     }
-    let (ended, written, _) = ends(&rt, COMPILE, SAMPLE.as_bytes(), None, Some(WRITES + 1))?;
-    assert_eq!(rt; ended, Status::Done);
-    assert_eq!(rt; written.as_slice(), PROGRAM.as_bytes());
     Ok(())
+}
+
+#[test]
+fn faults_of_outputs_end_it(rt: HostRuntime) -> Result<(), Fail> {
+    for call in 1..=WRITES {
+        let end = end_of(&rt, COMPILE, SAMPLE, "", None, Some(call))?;
+        assert_eq!(rt; end.status, Status::WriteFault);
+        assert!(rt; PROGRAM.as_bytes().starts_with(end.out.as_slice()));
+        assert_eq!(rt; end.err.as_slice(), b"".as_slice());
+    }
+    let end = end_of(&rt, COMPILE, SAMPLE, "", None, Some(WRITES + 1))?;
+    is_end(&end, Status::Done, PROGRAM, "")?;
+    let end = end_of(&rt, VERIFY, SAMPLE, PROGRAM, None, Some(1))?;
+    is_end(&end, Status::WriteFault, "", "")
 }

@@ -1,9 +1,10 @@
 //! Laws of what a command ends with.
-ghost use Rattle.stepmill.specs.OutcomeLaws.{BadWordsAreNoCommand, OneJob, OneOutcome, OneRefusal};
+ghost use Rattle.stepmill.specs.OutcomeLaws.{BadWordsAreNoCommand, OneCase, OneJob, OneOutcome, OneRefusal, OneVerdict};
 
 use crate::judge::sound_or_refused;
 use sn_link::laws::plans;
 use sn_model::one_model;
+use sn_open::verdict_laws::verdicts;
 use sn_p21::{one_fault, one_file};
 use sn_refs::laws::one_verdict;
 use sn_words::laws::one_meaning;
@@ -18,11 +19,24 @@ pub fn refusals()
     one_model();
     one_verdict();
     one_meaning();
+    sound_or_refused();
 }
 
-/// Laws of the job and of the outcome.
+/// Words and files ask for the verdict on one program for one job.
+pub fn one_case()
+    ensures { OneCase }
+{
+    one_file();
+    one_fault();
+    one_model();
+    one_verdict();
+    one_meaning();
+}
+
+/// Laws of the job, of the verdict and of the outcome.
 pub fn outcomes()
     ensures one_job { OneJob }
+    ensures one_verdict { OneVerdict }
     ensures one_outcome { OneOutcome }
 {
     one_file();
@@ -30,6 +44,8 @@ pub fn outcomes()
     one_model();
     one_verdict();
     one_meaning();
+    one_case();
+    verdicts();
     sound_or_refused();
     plans();
     refusals();

@@ -5,17 +5,17 @@ use Rattle.stepmill.proofs.program.write_steps.Goals as goal
 
 pub returns-in_err-write_step-clause-writes : goal.returns-in_err-write_step-clause-writes
 returns-in_err-write_step-clause-writes g c =
-    let more = Zip-more c.loop-step.step-iterator c.next.new.self c.next.result (c.in-Some.step, c.in-Some.moves) c.in-Some.is c.next.ensures.steps in
-    let left = next_step c.loop-step.invariant.left more.0 (rw (← c.as_slice-moves.ensures) at more.1) in
-    step_stopped c.from_residual.result left c.from_residual.ensures.0 c.in_err-write_step.ensures.writes
+    let more = Zip-more c.loop-step.step-iterator c.next.new.self c.next.result (c.in-Some.step, c.in-Some.planned) c.in-Some.is c.next.ensures.steps in
+    let left = next_step c.loop-step.invariant.left more.0 more.1 in
+    step_stopped c.from_residual.result left c.as_slice-moves.ensures c.from_residual.ensures.0 c.in_err-write_step.ensures.writes
 
 pub loop-step-preserved : goal.loop-step-preserved
 loop-step-preserved g c =
     let wrote = c.in_ok-write_step.ensures in
-    let more = Zip-more c.loop-step.step-iterator c.next.new.self c.next.result (c.in-Some.step, c.in-Some.moves) c.in-Some.is c.next.ensures.steps in
-    let left = next_step c.loop-step.invariant.left more.0 (rw (← c.as_slice-moves.ensures) at more.1) in
+    let more = Zip-more c.loop-step.step-iterator c.next.new.self c.next.result (c.in-Some.step, c.in-Some.planned) c.in-Some.is c.next.ensures.steps in
+    let left = next_step c.loop-step.invariant.left more.0 more.1 in
     record {
       begun = wrote.begun;
       tool = c.tool_left-tool.ensures ∙ sym wrote.tool;
-      left = step_taken left wrote.writes c.tool_left-tool.ensures wrote.tip;
+      left = step_taken left c.as_slice-moves.ensures wrote.writes c.tool_left-tool.ensures wrote.tip;
     }

@@ -3,6 +3,7 @@ use Rattle.std.specs.Iterator.Adapters.{zip_first, zip_second}
 use Rattle.std.specs.Slice.Iter.{iter_rest}
 use Rattle.sn_geom.specs.declared.tip.Tip.TheVariants.{Unknown}
 use Rattle.sn_gwrite.specs.Kept.{IsBegun}
+use Rattle.sn_link.specs.Counts.{moves_of}
 use Rattle.sn_link.specs.Plan.{with_moves}
 use Rattle.stepmill.specs.Text.{steps_text}
 use Rattle.stepmill.proofs.ProgramLemmas.{AreStepsLeft}
@@ -11,7 +12,7 @@ use Rattle.stepmill.proofs.program.write_steps.Given as goal
 abbrev pub invariant-loop-step : goal.invariant-loop-step
 invariant-loop-step g l =
     let state = g.S.Sink.state in
-    let text = steps_text l.job None Unknown (with_moves l.job.steps l.plans) in
+    let text = steps_text l.job None Unknown (with_moves l.job.steps (moves_of l.plans)) in
     record {
       begun : IsBegun l.emitter;
       tool : l.tool ≡ l.emitter.tool;

@@ -1,56 +1,119 @@
-use Rattle.std.proofs.Common.{[], refl, sym, subst, inl, inr}
-use Rattle.sn_io.proofs.SinkLemmas.{takes-nothing}
-use Rattle.stepmill.specs.Outcome.{IsOfDevices, refusal_text}
-use Rattle.stepmill.specs.Outcome.IsOutcome.{turned_down}
-use Rattle.stepmill.specs.Outcome.Stops.{at_message, at_program}
-use Rattle.stepmill.proofs.OutcomeLemmas.{refusal_or_device, job_not_refused, ends_compiled}
+use Rattle.std.proofs.Common.{refl, sym, subst, ◌∙◌, inl, inr}
+use Rattle.stepmill.specs.Outcome.Stops.{at_message}
+use Rattle.stepmill.proofs.AnswerLemmas as lemmas
 use Rattle.stepmill.proofs.run.run.Goals as goal
+
+-- An answer was found.
+
+pub write-requires : goal.write-requires
+write-requires g c = lemmas.can_be_written c.args.words.now (g.F.Files.state c.args.files.now) c.in-Ok.found c.in-Ok.ensures.found
 
 pub returns-in-Ok-clause-outcome : goal.returns-in-Ok-clause-outcome
 returns-in-Ok-clause-outcome g c = λ tells devices.
-    let written = c.write.ensures.done (λ e. devices (inr (inl e))) in
-    ends_compiled _ _ _ _ _ _ _ _ tells c.in-Ok.ensures.prepared written.0 written.1
+    let files = g.F.Files.state c.args.files.now in
+    let (answer, known, text, status) = lemmas.answer_of c.args.words.now files c.in-Ok.found c.in-Ok.ensures.found in
+    let was = lemmas.wrote _ _ _ c.in-Ok.found answer text status (c.write.ensures.done (λ e. devices (inr (inl e)))) in
+    lemmas.ends_answered c.args.words.now files answer _ _ _ _ tells known was
 
-pub returns-in-Ok-clause-good : goal.returns-in-Ok-clause-good
-returns-in-Ok-clause-good g c = λ done.
-    let written = c.write.ensures.done (λ stopped. cc (done, stopped)) in
-    record {
-      job = _;
-      plan = _;
-      prepared = c.in-Ok.ensures.prepared;
-      written = written.1;
-      untouched = refl;
-      good = c.in-Ok.ensures.good;
-    }
+pub returns-in-Ok-clause-compiles : goal.returns-in-Ok-clause-compiles
+returns-in-Ok-clause-compiles g c = λ done part o command.
+    let files = g.F.Files.state c.args.files.now in
+    let (answer, known, text, status) = lemmas.answer_of c.args.words.now files c.in-Ok.found c.in-Ok.ensures.found in
+    let was = lemmas.wrote _ _ _ c.in-Ok.found answer text status (c.write.ensures.done (λ stopped. cc (done, stopped))) in
+    lemmas.compiles c.one_meaning.ensures c.args.words.now files answer _ _ _ part o command known was
+
+pub returns-in-Ok-clause-approves : goal.returns-in-Ok-clause-approves
+returns-in-Ok-clause-approves g c = λ done part program o command.
+    let files = g.F.Files.state c.args.files.now in
+    let (answer, known, text, status) = lemmas.answer_of c.args.words.now files c.in-Ok.found c.in-Ok.ensures.found in
+    let was = lemmas.wrote _ _ _ c.in-Ok.found answer text status (c.write.ensures.done (λ stopped. cc (done, stopped))) in
+    lemmas.approves c.one_meaning.ensures c.args.words.now files answer _ _ _ part program o command done known was
+
+pub returns-in-Ok-clause-rejects : goal.returns-in-Ok-clause-rejects
+returns-in-Ok-clause-rejects g c = λ refuses.
+    let files = g.F.Files.state c.args.files.now in
+    let (answer, known, text, status) = lemmas.answer_of c.args.words.now files c.in-Ok.found c.in-Ok.ensures.found in
+    let was = lemmas.wrote _ _ _ c.in-Ok.found answer text status (c.write.ensures.done (λ stopped. cc (refuses, stopped))) in
+    lemmas.rejects c.verdicts.ensures.one c.args.words.now files answer _ _ _ refuses known was
+
+pub returns-in-Ok-clause-answers : goal.returns-in-Ok-clause-answers
+returns-in-Ok-clause-answers g c = λ either.
+    let files = g.F.Files.state c.args.files.now in
+    let (answer, known, text, status) = lemmas.answer_of c.args.words.now files c.in-Ok.found c.in-Ok.ensures.found in
+    let was = lemmas.wrote _ _ _ c.in-Ok.found answer text status (c.write.ensures.done (lemmas.no_fault _ either)) in
+    lemmas.answers c.args.words.now files answer _ _ _ _ known was
+
+pub returns-in-Ok-clause-completes : goal.returns-in-Ok-clause-completes
+returns-in-Ok-clause-completes g c = λ tells job asked.
+    let files = g.F.Files.state c.args.files.now in
+    let (answer, known, text, status) = lemmas.answer_of c.args.words.now files c.in-Ok.found c.in-Ok.ensures.found in
+    lemmas.done_or_fault _ _ (status ∙ lemmas.completes c.one_meaning.ensures c.args.words.now files answer files.given job asked known) c.write.ensures.either
+
+pub returns-in-Ok-clause-judges : goal.returns-in-Ok-clause-judges
+returns-in-Ok-clause-judges g c = λ tells job program asked.
+    let files = g.F.Files.state c.args.files.now in
+    let (answer, known, text, status) = lemmas.answer_of c.args.words.now files c.in-Ok.found c.in-Ok.ensures.found in
+    lemmas.either_or_fault _ _ answer status c.write.ensures.either
+
+pub returns-in-Ok-clause-exactly : goal.returns-in-Ok-clause-exactly
+returns-in-Ok-clause-exactly g c = λ tells job program asked devices.
+    let files = g.F.Files.state c.args.files.now in
+    let (answer, known, text, status) = lemmas.answer_of c.args.words.now files c.in-Ok.found c.in-Ok.ensures.found in
+    let was = lemmas.wrote _ _ _ c.in-Ok.found answer text status (c.write.ensures.done (λ e. devices (inr (inl e)))) in
+    lemmas.exactly_so _ _ was.status_is
+    (lemmas.exactly c.one_meaning.ensures c.verdicts.ensures.one c.one_case.ensures c.args.words.now files answer job program tells asked known)
+
+pub returns-in-Ok-clause-refused : goal.returns-in-Ok-clause-refused
+returns-in-Ok-clause-refused g c = λ not_done not_no no_fault.
+    let files = g.F.Files.state c.args.files.now in
+    let (answer, known, text, status) = lemmas.answer_of c.args.words.now files c.in-Ok.found c.in-Ok.ensures.found in
+    absurd (lemmas.answered_status _ answer ((c.write.ensures.done no_fault).0 ∙ status) not_done not_no)
 
 pub returns-in-Ok-clause-stopped : goal.returns-in-Ok-clause-stopped
 returns-in-Ok-clause-stopped g c = λ stopped.
-    at_program _ _ c.in-Ok.ensures.prepared (c.write.ensures.stopped stopped) refl
+    let state = g.F.Files.state in
+    lemmas.stopped_at c.args.words.now (state c.args.files.now) (state c.find.new.files) _ _ _ c.in-Ok.found c.in-Ok.ensures.found (c.write.ensures.stopped stopped)
+
+-- The command was refused.
 
 pub returns-in-Err-clause-outcome : goal.returns-in-Err-clause-outcome
 returns-in-Err-clause-outcome g c = λ tells devices.
     let state = g.F.Files.state in
-    let refusal = c.in-Err.refusal in
     let told = c.refuse.ensures.told (λ e. devices (inr (inl e))) in
-    elim (refusal_or_device c.args.words.now (state c.args.files.now) (state c.prepare.new.files) refusal tells c.in-Err.ensures.explains) [
-      | inl why ↦ record {
-        text = [];
-        message = refusal_text refusal;
-        outcome = turned_down refusal why told.0 refl refl;
-        written = takes-nothing _;
-        told = told.1;
-      }
-      | inr device ↦ absurd (devices (subst IsOfDevices (sym told.0) device))
-    ]
+    lemmas.ends_refused c.args.words.now (state c.args.files.now) (state c.find.new.files) c.in-Err.refusal _ _ _ _ tells c.in-Err.ensures.explains told.0 told.1 devices
 
-pub returns-in-Err-clause-stopped : goal.returns-in-Err-clause-stopped
-returns-in-Err-clause-stopped g c = λ stopped. at_message c.in-Err.refusal c.in-Err.ensures.explains refl (c.refuse.ensures.stopped stopped)
+pub returns-in-Err-clause-compiles : goal.returns-in-Err-clause-compiles
+returns-in-Err-clause-compiles g c = λ done. absurd (lemmas.never_done _ c.in-Err.refusal c.refuse.ensures.either done)
+
+pub returns-in-Err-clause-approves : goal.returns-in-Err-clause-approves
+returns-in-Err-clause-approves g c = λ done. absurd (lemmas.never_done _ c.in-Err.refusal c.refuse.ensures.either done)
+
+pub returns-in-Err-clause-rejects : goal.returns-in-Err-clause-rejects
+returns-in-Err-clause-rejects g c = λ refuses. absurd (lemmas.never_no _ c.in-Err.refusal c.refuse.ensures.either refuses)
+
+pub returns-in-Err-clause-answers : goal.returns-in-Err-clause-answers
+returns-in-Err-clause-answers g c = λ either. elim either [
+  | inl done ↦ absurd (lemmas.never_done _ c.in-Err.refusal c.refuse.ensures.either done)
+  | inr refuses ↦ absurd (lemmas.never_no _ c.in-Err.refusal c.refuse.ensures.either refuses)
+]
 
 pub returns-in-Err-clause-completes : goal.returns-in-Err-clause-completes
 returns-in-Err-clause-completes g c = λ tells job asked.
     let state = g.F.Files.state in
-    let before = state c.args.files.now in
-    elim (refusal_or_device c.args.words.now before (state c.prepare.new.files) c.in-Err.refusal tells c.in-Err.ensures.explains) [
-      | inl why ↦ absurd (job_not_refused c.one_meaning.ensures c.sound_or_refused.ensures c.args.words.now before.given job c.in-Err.refusal asked why)
-      | inr device ↦ elim c.refuse.ensures.either [ inl same ↦ inr (subst IsOfDevices (sym same) device) | inr stopped ↦ inr (inr (inl stopped)) ]
-    ]
+    inr (lemmas.job_by_devices c.one_meaning.ensures c.sound_or_refused.ensures c.args.words.now (state c.args.files.now) (state c.find.new.files) c.in-Err.refusal _ job tells
+    c.in-Err.ensures.explains asked c.refuse.ensures.either)
+
+pub returns-in-Err-clause-judges : goal.returns-in-Err-clause-judges
+returns-in-Err-clause-judges g c = λ tells job program asked.
+    let state = g.F.Files.state in
+    inr (lemmas.case_by_devices c.one_meaning.ensures c.sound_or_refused.ensures c.args.words.now (state c.args.files.now) (state c.find.new.files) c.in-Err.refusal _ job program
+    tells c.in-Err.ensures.explains asked c.refuse.ensures.either)
+
+pub returns-in-Err-clause-exactly : goal.returns-in-Err-clause-exactly
+returns-in-Err-clause-exactly g c = λ tells job program asked devices.
+    let state = g.F.Files.state in
+    absurd (devices (lemmas.case_by_devices c.one_meaning.ensures c.sound_or_refused.ensures c.args.words.now (state c.args.files.now) (state c.find.new.files) c.in-Err.refusal _ job
+    program tells c.in-Err.ensures.explains asked c.refuse.ensures.either))
+
+pub returns-in-Err-clause-stopped : goal.returns-in-Err-clause-stopped
+returns-in-Err-clause-stopped g c = λ stopped. at_message c.in-Err.refusal c.in-Err.ensures.explains refl (c.refuse.ensures.stopped stopped)

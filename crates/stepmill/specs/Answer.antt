@@ -1,0 +1,33 @@
+-- MEANING: what a command answers: the program for a part, or the verdict on a program (this project's own).
+use Rattle.std.specs.Prelude.{ℕ, List}
+use Rattle.sn_outline.specs.Job.{Job}
+use Rattle.sn_outline.specs.declared.job.StepJob.{StepJob}
+use Rattle.sn_open.specs.declared.verdict.Verdict.{Verdict}
+use Rattle.sn_open.specs.declared.verdict.Verdict.TheVariants.{Yes, Line, NoEnd, Missing, Uncovered}
+use Rattle.sn_link.specs.declared.moves.Move.{Move}
+use Rattle.stepmill.specs.declared.status.Status.{Status}
+use Rattle.stepmill.specs.declared.status.Status.TheVariants.{Done, No}
+use Rattle.stepmill.specs.Text.{program_text}
+use Rattle.stepmill.specs.VerdictText.{verdict_text}
+
+-- a job with its plan, whose program is written; or a job, a program for it and the verdict on that program
+pub data Answer : Type 0 where
+  Planned : Job → List (StepJob × List Move) → Answer
+  Judged : Job → List ℕ → Verdict → Answer
+
+-- the text for the output
+abbrev pub answer_text : Answer → List ℕ
+answer_text (Planned job plan) = program_text job plan
+answer_text (Judged job program verdict) = verdict_text verdict
+
+-- a yes is Done, and each other verdict is No
+abbrev pub status_of_verdict : Verdict → Status
+status_of_verdict Yes = Done
+status_of_verdict (Line n cause) = No
+status_of_verdict NoEnd = No
+status_of_verdict (Missing ws) = No
+status_of_verdict (Uncovered feature c) = No
+
+abbrev pub answer_status : Answer → Status
+answer_status (Planned job plan) = Done
+answer_status (Judged job program verdict) = status_of_verdict verdict

@@ -1,0 +1,91 @@
+-- PRIVATE: what is found for a command before anything is written, as the code keeps it, and why nothing was found.
+use Rattle.std.specs.Prelude.{◌≡◌, ◌+◌, ◌≤◌, ℕ, List, length, IsTrue}
+use Rattle.sn_io.specs.Count.{count_after, Rises}
+use Rattle.sn_io.specs.Files.{FilesState}
+use Rattle.sn_outline.specs.Job.{Job}
+use Rattle.sn_outline.specs.JobRule.{IsJob}
+use Rattle.sn_outline.specs.declared.job.StepJob.{StepJob}
+use Rattle.sn_words.specs.Options.{Options}
+use Rattle.sn_open.specs.Good.{Good}
+use Rattle.sn_open.specs.Verdict.{IsVerdict}
+use Rattle.sn_open.specs.declared.verdict.Verdict.{Verdict}
+use Rattle.sn_link.specs.declared.moves.Move.{Move}
+use Rattle.sn_link.specs.Counts.{moves_of}
+use Rattle.sn_link.specs.Plan.{IsPlan, with_moves}
+use Rattle.stepmill.specs.declared.compile.Planned.{Planned}
+use Rattle.stepmill.specs.declared.reading.TheConstants.{LONGEST, LONGEST_PROGRAM}
+use Rattle.stepmill.specs.declared.refusal.Refusal.{Refusal}
+use Rattle.stepmill.specs.declared.refusal.Refusal.TheVariants as refused
+use Rattle.stepmill.specs.declared.run.Found.{Found}
+use Rattle.stepmill.specs.declared.run.Found.TheVariants as found
+use Rattle.stepmill.specs.declared.status.Status.{Status}
+use Rattle.stepmill.specs.declared.status.Status.TheVariants.{Done}
+use Rattle.stepmill.specs.Answer.{status_of_verdict}
+use Rattle.stepmill.specs.Outcome.{IsJudged, IsLongRead, IsPrepared, IsReadOf}
+use Rattle.stepmill.specs.Part.{IsSoundPart, IsUnjudged}
+use Rattle.stepmill.specs.PlanActs.{IsWritableProgram}
+use Rattle.stepmill.specs.Text.{program_text}
+use Rattle.stepmill.specs.VerdictText.{verdict_text}
+
+-- Programs that are written.
+
+-- each step with its moves
+abbrev pub plan_of : Planned → List (StepJob × List Move)
+plan_of planned = with_moves planned.job.steps (moves_of planned.moves)
+
+-- a job with its plan, whose program can be written, and is good for the job
+pub record IsGoodPlan (planned : Planned) : Type 0 where
+  pub rule : IsJob planned.job
+  pub plan : IsPlan planned.job (plan_of planned)
+  pub each : length planned.moves ≡ length planned.job.steps
+  pub writable : IsWritableProgram planned.job (plan_of planned)
+  pub good : Good planned.job (program_text planned.job (plan_of planned))
+
+-- Verdicts.
+
+-- The verdict on the program of a name for the sound part of another, with these options.
+pub record IsVerdictOf (files : FilesState) (part name : List ℕ) (o : Options) (verdict : Verdict) : Type 0 where
+  pub job : Job
+  pub program : List ℕ
+  pub read : IsReadOf files part (λ bytes. IsSoundPart bytes o job)
+  pub rule : IsJob job
+  pub content : IsTrue files.tells → program ≡ files.given name 1
+  pub short : length program ≤ LONGEST_PROGRAM
+  pub judged : IsVerdict job program verdict
+
+-- why there is no verdict, with the files before and after: all memory is taken before the program is opened
+abbrev pub IsRefusedCase : FilesState → FilesState → List ℕ → List ℕ → Options → Refusal → Type 0
+IsRefusedCase before after part name o (refused.Word place) = ⊥
+IsRefusedCase before after part name o refused.NotRead = Rises before.faults after.faults
+IsRefusedCase before after part name o refused.NoMemory = after.opens ≤ before.opens + 1
+IsRefusedCase before after part name o refused.TooLong =
+    IsLongRead before after × (IsTrue before.tells → IsUnjudged (before.given part 0) (before.given name 1) o refused.TooLong)
+IsRefusedCase before after part name o refusal = IsTrue before.tells → IsUnjudged (before.given part 0) (before.given name 1) o refusal
+
+-- what is done to the files: each of the two is opened once at the most, and read to its end or until one byte more than its
+-- limit was taken
+pub record ReadsBoth (before after : FilesState) (part name : List ℕ) : Type 0 where
+  pub opens : after.opens ≤ before.opens + 2
+  pub reads : after.reads ≤ before.reads + (LONGEST + 2 + (LONGEST_PROGRAM + 2))
+  pub bytes : after.bytes ≤ count_after before.bytes (LONGEST + 1 + (LONGEST_PROGRAM + 1))
+  pub no_strange : IsTrue before.tells → IsTrue (before.has_file part) → IsTrue (before.has_file name) → after.strange_opens ≡ before.strange_opens
+
+-- What is written.
+
+abbrev pub found_text : Found → List ℕ
+found_text (found.Plan planned) = program_text planned.job (plan_of planned)
+found_text (found.Verdict verdict) = verdict_text verdict
+
+abbrev pub found_status : Found → Status
+found_status (found.Plan planned) = Done
+found_status (found.Verdict verdict) = status_of_verdict verdict
+
+-- it can be written
+abbrev pub CanBeWritten : Found → Type 0
+CanBeWritten (found.Plan planned) = IsGoodPlan planned
+CanBeWritten (found.Verdict verdict) = Unit {0}
+
+-- this was found for the words
+abbrev pub IsFoundFor : List (List ℕ) → FilesState → Found → Type 0
+IsFoundFor words files (found.Plan planned) = IsPrepared words files planned.job (plan_of planned) × IsGoodPlan planned
+IsFoundFor words files (found.Verdict verdict) = (job : Job) × (program : List ℕ) × IsJudged words files job program verdict
