@@ -9,6 +9,8 @@ set -u
 cd "$(dirname "$0")/.." || exit 1
 sample=$PWD/crates/stepmill/data/one.stp
 sample_text=$PWD/crates/stepmill/stdout
+plate=$PWD/crates/stepmill/data/plate.stp
+plate_box=0,0,0,100,60,22
 longest=67108864
 folder=$(mktemp -d) || exit 1
 trap 'rm -rf "$folder"' EXIT
@@ -83,9 +85,9 @@ check_statuses() {
   tr 7 8 < "$sample" > "$folder/twice.stp"
   run compile "$folder/twice.stp" --cell 1000
   wants 'a number given twice' 1 nothing 'stepmill: part: #8 twice at 417'
-  sed 's/FLAT_HOLE_BOTTOM/THROUGH_BOTTOM_CONDITION/' "$sample" > "$folder/form.stp"
-  run compile "$folder/form.stp" --cell 1000
-  wants 'another form' 1 nothing 'stepmill: part: form not built'
+  sed 's/FLAT_HOLE_BOTTOM/THROUGH_BOTTOM_CONDITION/' "$sample" > "$folder/through.stp"
+  run compile "$folder/through.stp" --cell 1000
+  wants 'a through hole by a tool without a point' 0 program ''
   sed 's/DIMENSION(8\./DIMENSION(1./' "$sample" > "$folder/thin.stp"
   run compile "$folder/thin.stp" --cell 1000
   wants 'a tool that does not reach all' 7 nothing 'stepmill: uncovered #8 i 10 j 9 z 4000'
@@ -219,6 +221,123 @@ check_pocket() {
   wants 'a pocket' 0 "@$folder/pocket.ngc" ''
 }
 
+# A slot of 10 mm along three points, 4 mm deep, followed by a tool of its width in two layers.
+slot_edits=(
+  's/^#8=.*/#8=SLOT('"''"',#3,(#9),#13,#14,#26,#27,(#28));/'
+  's/^#9=.*/#9=BOTTOM_AND_SIDE_ROUGH_MILLING($,$,'"''"',$,$,#17,#18,$,$,$,$,$,2.,$,$,$);/'
+  's/^#16=.*/#26=GENERAL_PATH($,#29);#27=SQUARE_U_PROFILE($,#15,$,$,$,$);#28=RADIUSED_SLOT_END_TYPE();#29=POLYLINE('"''"',(#30,#31,#32));/'
+  's/^#21=.*/#21=CARTESIAN_POINT('"''"',(0.,0.,12.));#30=CARTESIAN_POINT('"''"',(15.,15.));#31=CARTESIAN_POINT('"''"',(40.,15.));#32=CARTESIAN_POINT('"''"',(55.,35.));/'
+  's/20\.,20\.,10\./70.,50.,12./' 's/MEASURE(8\./MEASURE(10./' 's/DIMENSION(8\./DIMENSION(10./' 's/-6\./-4./'
+)
+
+check_slot() {
+  compile_changed 250 "${slot_edits[@]}"
+  {
+    head -n 8 "$sample_text"
+    printf 'G0 Z20.000\nG0 X15.000 Y15.000\nG0 Z13.000\nG1 Z10.000\nG1 X40.000 Y15.000\nG1 X55.000 Y35.000\nG0 Z20.000\n'
+    printf 'G0 X15.000 Y15.000\nG0 Z11.000\nG1 Z8.000\nG1 X40.000 Y15.000\nG1 X55.000 Y35.000\nG0 Z20.000\nM2\n%%\n'
+  } > "$folder/slot.ngc"
+  wants 'a slot' 0 "@$folder/slot.ngc" ''
+  cp "$folder/changed.stp" "$folder/slot.stp"
+  run verify "$folder/slot.stp" "$folder/slot.ngc"
+  wants 'the program of the slot' 0 'yes' ''
+  sed '12s/.*/G1 Z9.000/' "$folder/slot.ngc" > "$folder/changed.ngc"
+  run verify "$folder/slot.stp" "$folder/changed.ngc"
+  wants 'a plunge that is too deep for the feed behind it' 6 'no: line 13: too deep at i 61 j 40 z 11000' ''
+}
+
+# A drill with a point goes through its hole and comes out of its point at feed.
+check_drill() {
+  local drill=('s/ENDMILL/TWIST_DRILL/' 's/FLAT_HOLE_BOTTOM/THROUGH_BOTTOM_CONDITION/' 's/-6\./-10./')
+  local thin=('s/MEASURE(8\./MEASURE(0.6/' 's/DIMENSION(8\./DIMENSION(0.6/')
+  compile_changed 1000 "${drill[@]}"
+  {
+    head -n 11 "$sample_text"
+    printf 'G1 Z-4.000\nG1 Z0.000\nG0 Z20.000\nM2\n%%\n'
+  } > "$folder/drill.ngc"
+  wants 'a drill with a point' 0 "@$folder/drill.ngc" ''
+  run verify "$folder/changed.stp" "$folder/drill.ngc" --cell 1000
+  wants 'its program' 0 'yes' ''
+  compile_changed 1000 's/ENDMILL/TWIST_DRILL/'
+  wants 'a flat bottom by a drill with a point' 7 nothing 'stepmill: uncovered #8 i 10 j 9 z 4000'
+  compile_changed 250 "${drill[@]}" "${thin[@]}"
+  wants 'a thin drill on a coarse grid' 1 nothing 'stepmill: part: #8 too small for the grid'
+  compile_changed 50 "${drill[@]}" "${thin[@]}"
+  wants 'a thin drill on a fine grid' 0 'G1 Z-0.300' ''
+}
+
+# A face, a hole, and a pocket that is roughed and finished.
+check_plate() {
+  run compile "$plate" --raw "$plate_box"
+  cp "$folder/out" "$folder/plate.ngc"
+  wants 'the plate' 0 '(WS #14)' ''
+  run verify "$plate" "$folder/plate.ngc" --raw "$plate_box"
+  wants 'the program of the plate' 0 'yes' ''
+  run verify "$plate" "$folder/plate.ngc" --raw 0,0,0,100,60,25
+  wants 'its program for a higher box' 6 'no: line 12: rapid in material at i 0 j 0 z 23000' ''
+  run compile "$plate"
+  wants 'the plate without its box' 1 nothing 'stepmill: part: raw box unknown'
+}
+
+# verdict NAME STATUS LINE EDIT..: the sample part's program, changed by edits of sed, has this verdict.
+verdict() {
+  local edit edits=()
+  for edit in "${@:4}"; do edits+=(-e "$edit"); done
+  sed "${edits[@]}" "$sample_text" > "$folder/changed.ngc"
+  run verify "$sample" "$folder/changed.ngc" --cell 1000
+  wants "$1" "$2" "$3" ''
+}
+
+check_verdicts() {
+  local bytes
+  run verify "$sample" "$sample_text" --cell 1000
+  wants 'the program of the sample' 0 'yes' ''
+  verdict 'another layout' 0 'yes' 's/^G0 Z20/n10 g 0 z +2 0/' 's/F300/(feed) F0300.0/' 's/$/\r/'
+  verdict 'a plunge in rapid' 6 'no: line 12: rapid in material at i 10 j 6 z 4000' '12s/G1/G0/'
+  verdict 'no plunge' 6 'no: #8 uncovered at i 10 j 9 z 4000' '11,12d'
+  verdict 'no end' 6 'no: no end' '14d'
+  verdict 'a lost axis' 6 'no: line 9: lost axis' '9s/Z20.000/X10.000/'
+  verdict 'a deeper plunge' 6 'no: line 12: gouge at i 10 j 6 z 3999' '12s/Z4.000/Z3.999/'
+  verdict 'no mark' 6 'no: line 11: feed before a mark' '4d'
+  verdict 'another mark' 6 'no: line 4: wrong mark' '4s/4/5/'
+  verdict 'a second mark' 6 'no: line 13: wrong mark' '12a (WS #4)'
+  verdict 'no steps' 6 'no: #4 not executed' '4,13d'
+  verdict 'another feed' 6 'no: line 12: other feed' 's/F300/F301/'
+  verdict 'another speed' 6 'no: line 12: other speed' 's/S720/S721/'
+  verdict 'another tool' 6 'no: line 11: other tool' 's/T1 M6/T2 M6/' 's/H1/H2/'
+  verdict 'a low entry' 6 'no: line 9: low entry' '9s/20/19/'
+  verdict 'an arc' 6 'no: line 10: unsupported at 1' '10s/G0/G2/'
+  verdict 'a long line' 6 'no: line 3: long line' "3s/\$/$(printf '%*s' 250 '')/"
+  run verify "$sample" /dev/null --cell 1000
+  wants 'an empty program' 6 'no: no end' ''
+  run verify "$sample" "$folder/missing.ngc" --cell 1000
+  wants 'a missing program' 3 nothing 'stepmill: read fault'
+  run verify "$folder/missing.stp" "$sample_text" --cell 1000
+  wants 'a missing part' 3 nothing 'stepmill: read fault'
+  run verify "$sample" --cell 1000
+  wants 'one file' 2 nothing 'stepmill: word 3'
+  timeout 120 "$program" verify /dev/stdin "$sample_text" --cell 1000 < "$sample" > "$folder/out" 2> "$folder/err"
+  status=$?
+  wants 'a part from standard input' 0 'yes' ''
+  for bytes in 1 7; do
+    dd if="$sample_text" bs="$bytes" oflag=direct status=none \
+      | timeout 120 "$program" verify "$sample" /dev/stdin --cell 1000 > "$folder/out" 2> "$folder/err"
+    status=$?
+    wants "a program in pieces of $bytes bytes" 0 'yes' ''
+  done
+  head -c -1 "$sample_text" > "$folder/changed.ngc"
+  run verify "$sample" "$folder/changed.ngc" --cell 1000
+  wants 'no line feed at the end' 0 'yes' ''
+  yes "$(printf '%*s' 256 '')" | head -n 262145 \
+    | timeout 120 prlimit --as=200000000 "$program" verify "$sample" /dev/stdin --cell 1000 > "$folder/out" 2> "$folder/err"
+  status=$?
+  wants '67 MB of blanks in constant memory' 6 'no: no end' ''
+  timeout 120 "$program" verify "$sample" "$sample_text" --cell 1000 > /dev/full 2> "$folder/err"
+  status=$?
+  : > "$folder/out"
+  wants 'a verdict on a full device' 4 nothing ''
+}
+
 # Each front of the sample part has its first fault, as tools/prefix_faults.py computes it by a plain program.
 check_fronts() {
   local length fault
@@ -250,7 +369,7 @@ check_words() {
   done
   run compile "$sample" --cell 1000 ''
   wants 'a word too many' 2 nothing 'stepmill: word 5'
-  for word in verify report make trial; do
+  for word in report make trial; do
     run "$word" "$sample" --cell 1000
     wants "the command $word, which is not built yet" 2 nothing 'stepmill: word 1'
   done
@@ -301,10 +420,10 @@ check_names() {
   cd - > /dev/null || exit 1
 }
 
-# A part is read in chunks of 65,536 bytes, and from a pipe in any pieces.
+# A part is read in chunks of 16,384 bytes, and from a pipe in any pieces.
 check_chunks() {
   local bytes
-  for bytes in 65535 65536 65537 131072 131073 200000; do
+  for bytes in 16383 16384 16385 32769 131072 200000; do
     padded "$bytes" > "$folder/part.stp"
     run compile "$folder/part.stp" --cell 1000
     wants "a part of $bytes bytes" 0 program ''
@@ -484,6 +603,10 @@ for program in "$@"; do
   check_limits
   check_parts
   check_pocket
+  check_slot
+  check_drill
+  check_plate
+  check_verdicts
   check_fronts
   check_words
   check_names

@@ -8,7 +8,7 @@
 # The last line is 'N passed, M failed'. The status is 1 where an example failed or there was none.
 set -u
 cd "$(dirname "$0")/.." || exit 1
-[ $# -gt 0 ] || set -- docs/USE.md docs/PROGRAMS.md integrations/linuxcnc/README.md
+[ $# -gt 0 ] || set -- docs/USE.md docs/VERIFY.md docs/PROGRAMS.md integrations/linuxcnc/README.md
 top=$PWD
 room=$(mktemp -d) || exit 1
 trap 'rm -rf "$room"' EXIT
