@@ -8,3 +8,5 @@ mod CommonRows
 mod FeatureRows
 mod GeneratedPart
 mod SlotText
+mod CellCounts
+mod JobCountLemmas

@@ -1,3 +1,5 @@
 pub mod Generated
 pub mod Report
 pub mod GeneratedLaws
+pub mod JobCounts
+pub mod JobCountsLaws

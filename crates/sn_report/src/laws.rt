@@ -1,5 +1,8 @@
 //! Laws of the definitions. The functions do nothing.
 ghost use Rattle.sn_report.specs.GeneratedLaws.{SeedNoneBeginsSo, SlotsAreWritten, SeedsGiveSixteen};
+ghost use Rattle.sn_report.specs.JobCountsLaws.{OneCount};
+
+use sn_link::laws::plans;
 
 /// What the seed 0 gives first.
 pub fn seed_none_begins_so()
@@ -15,3 +18,10 @@ pub fn slots_are_written()
 pub fn seeds_give_sixteen()
     ensures { SeedsGiveSixteen }
 {}
+
+/// A job has one list of counts.
+pub fn one_count()
+    ensures { OneCount }
+{
+    plans();
+}
