@@ -1,11 +1,9 @@
 -- What the top call ends with, where an answer was found and where the command was refused.
-use Rattle.std.proofs.Common.{ℕ, ◌≡◌, ◌≢◌, ◌↔◌, ◌⊎◌, inl, inr, List, [], IsTrue, refl, sym, ap, subst, ◌∙◌}
+use Rattle.std.proofs.Common.{ℕ, ◌≡◌, ◌≢◌, ◌↔◌, ◌⊎◌, inl, inr, List, [], ◌∷◌, IsTrue, refl, sym, ap, subst, ◌∙◌, arith}
 use Rattle.sn_io.specs.Files.{FilesState}
 use Rattle.sn_io.specs.Sink.{SinkState, Takes, TakesFront}
 use Rattle.sn_io.proofs.SinkLemmas.{takes-nothing}
 use Rattle.sn_outline.specs.Job.{Job}
-use Rattle.sn_outline.specs.declared.job.StepJob.{StepJob}
-use Rattle.sn_link.specs.declared.moves.Move.{Move}
 use Rattle.sn_open.specs.Good.{Good}
 use Rattle.sn_open.specs.Verdict.{IsVerdict}
 use Rattle.sn_open.specs.VerdictLaws.{ProgramsHaveOneVerdict}
@@ -13,34 +11,54 @@ use Rattle.sn_open.specs.declared.verdict.Verdict.{Verdict}
 use Rattle.sn_open.specs.declared.verdict.Verdict.TheVariants.{Yes}
 use Rattle.sn_words.specs.CommandLaws.{SaysOneThing}
 use Rattle.sn_words.specs.Options.{Options}
-use Rattle.stepmill.specs.declared.refusal.Refusal.{Refusal}
-use Rattle.stepmill.specs.declared.refusal.Refusal.TheVariants as refused
-use Rattle.stepmill.specs.declared.run.Found.{Found}
-use Rattle.stepmill.specs.declared.run.Found.TheVariants as found
+use Rattle.sn_words.specs.declared.options.Command.TheVariants.{Compile, Verify, Make}
+use Rattle.sn_message.specs.RefusalText.{refusal_text}
+use Rattle.sn_message.specs.declared.refusal.Refusal.{Refusal}
+use Rattle.sn_message.specs.declared.refusal.Refusal.TheVariants as refused
+use Rattle.stepmill.specs.declared.find.Found.{Found}
+use Rattle.stepmill.specs.declared.find.Found.TheVariants as found
 use Rattle.stepmill.specs.declared.status.Status.{Status}
 use Rattle.stepmill.specs.declared.status.Status.TheVariants.{Done, No, WriteFault}
-use Rattle.stepmill.specs.Answer.{Answer, Planned, Judged, answer_status, answer_text, status_of_verdict}
-use Rattle.stepmill.specs.Command.{IsCompile, IsVerify}
+use Rattle.stepmill.specs.Answer.{Answer, Planned, Judged, Counted, Made, answer_status, answer_text, generated_text, status_of_verdict}
+use Rattle.stepmill.specs.Command.{AsksFor, AsksForCounts, IsMake}
 use Rattle.stepmill.specs.Found.{CanBeWritten, IsFoundFor, found_status, found_text, plan_of}
-use Rattle.stepmill.specs.Outcome.{Answers, Approves, Compiles, Ends, Explains, IsAnswer, IsCaseOf, IsFound, IsJobOf, IsJudged, IsOfDevices, IsPrepared, Rejects, Stops, refusal_text, status_of}
+use Rattle.stepmill.specs.Outcome.{Answers, Approves, Compiles, Ends, Explains, IsAnswer, IsCaseOf, IsFound, IsJobOf, IsJudged, IsKnown, IsOfDevices, IsPartWith, Rejects, Reports, Stops, status_of}
+use Rattle.stepmill.specs.Outcome.IsPartOf.{of_file, of_seed}
+use Rattle.stepmill.specs.Outcome.IsPartWith.{of_file_read, of_seed_made}
 use Rattle.stepmill.specs.Outcome.IsOutcome.{answered, turned_down}
 use Rattle.stepmill.specs.Outcome.Stops.{at_answer}
 use Rattle.stepmill.specs.OutcomeLaws.{OneCase}
 use Rattle.stepmill.specs.Part.{IsCompiledPart, IsSoundPart, SoundOrRefused}
 use Rattle.stepmill.proofs.LoadLemmas.{as_told}
-use Rattle.stepmill.proofs.OutcomeLemmas.{case_not_refused, job_not_refused, not_both, refusal_or_device}
+use Rattle.stepmill.proofs.CommandLemmas.{IsNumbered, answer_sort, asks_make, asks_verify, counts_sort, make_alone, one_number, same_seed, sort_of}
+use Rattle.stepmill.proofs.OutcomeLemmas.{case_not_refused, job_not_refused, make_not_refused, part_or_case, refusal_or_device, tells_of}
 
 -- Answers.
 
 pub can_be_written : (words : List (List ℕ)) (files : FilesState) (f : Found) → IsFoundFor words files f → CanBeWritten f
 can_be_written words files (found.Plan planned) (prepared, good) = good
-can_be_written words files (found.Verdict verdict) is = tt
+can_be_written words files found is = tt
 
 -- the answer that was found
 pub answer_of : (words : List (List ℕ)) (files : FilesState) (f : Found) → IsFoundFor words files f
     → (answer : Answer) × IsFound words files answer × (found_text f ≡ answer_text answer) × (found_status f ≡ answer_status answer)
 answer_of words files (found.Plan planned) (prepared, good) = (Planned planned.job (plan_of planned), prepared, refl, refl)
 answer_of words files (found.Verdict verdict) (job, program, judged) = (Judged job program verdict, judged, refl, refl)
+answer_of words files (found.Counts counts) (job, reported) = (Counted job counts, reported, refl, refl)
+answer_of words files (found.Part text) (seed, make, is) = (Made seed, make, is, refl)
+
+-- Sorts of answers.
+
+sorted : (words : List (List ℕ)) (files : FilesState) (answer : Answer) → IsFound words files answer → IsNumbered sort_of words (answer_sort answer)
+sorted words files (Planned job plan) known = (Compile, known.asked, refl)
+sorted words files (Judged job program verdict) known = (Verify, asks_verify words known.part_name known.name known.options known.command, refl)
+sorted words files (Counted job counts) known = counts_sort words known.asked
+sorted words files (Made seed) known = (Make, asks_make words seed known, refl)
+
+-- an answer of another sort is not found
+other_sort : SaysOneThing → (words : List (List ℕ)) (files : FilesState) (answer : Answer) (n : ℕ) → IsFound words files answer → IsNumbered sort_of words n → n ≢ answer_sort answer → ⊥
+other_sort law words files answer n known asked other =
+    other (one_number law sort_of words n (answer_sort answer) asked (sorted words files answer known))
 
 -- its text was written, and its status given
 pub record IsWritten (status : Status) (out out_after : SinkState) (answer : Answer) : Type 0 where
@@ -57,54 +75,101 @@ stopped_at words before after out out_after err f is front =
     let (answer, found_is, text, status) = answer_of words before f is in
     at_answer answer found_is (subst (TakesFront out out_after) text front) refl
 
--- where the files tell their content, what was found is what the words ask for
-told_answer : (words : List (List ℕ)) (files : FilesState) (answer : Answer) → IsTrue files.tells → IsFound words files answer → IsAnswer words files.given answer
-told_answer words files (Planned job plan) told known = (
-  record {
-    name = known.name;
-    options = known.options;
-    command = known.command;
-    part = as_told files known.name (λ bytes. IsCompiledPart bytes known.options job) told known.read;
-  },
-  known.planned,
-)
-told_answer words files (Judged job program verdict) told known = (
-  record {
-    part_name = known.part_name;
-    name = known.name;
-    options = known.options;
-    command = known.command;
-    part = as_told files known.part_name (λ bytes. IsSoundPart bytes known.options job) told known.read;
-    program_is = known.content told;
-    short = known.short;
-  },
-  known.judged,
-)
+-- where what the words ask for is known, what was found is that
 
-pub ends_answered : (words : List (List ℕ)) (files : FilesState) (answer : Answer) (status : Status) (out out_after err : SinkState)
-    → IsTrue files.tells → IsFound words files answer → IsWritten status out out_after answer → Ends words files.given status out out_after err err
-ends_answered words files answer status out out_after err told known was = record {
+told_job : SaysOneThing → (words : List (List ℕ)) (files : FilesState) (job : Job) (o : Options) → IsKnown words files
+    → IsPartWith words files o (λ bytes. IsCompiledPart bytes o job) → IsJobOf words files.given job
+told_job law words files job o told (of_file_read name command read) = record {
+  bytes = files.given name 0;
+  options = o;
+  part = of_file name command refl;
+  compiled = as_told files name (λ bytes. IsCompiledPart bytes o job) (tells_of law words name [] o files command.accepted command.file told) read;
+}
+told_job law words files job o told (of_seed_made command compiled) =
+    record { bytes = generated_text o.seed; options = o; part = of_seed command refl; compiled = compiled }
+
+told_answer : SaysOneThing → (words : List (List ℕ)) (files : FilesState) (answer : Answer) → IsKnown words files → IsFound words files answer
+    → IsAnswer words files.given answer
+told_answer law words files (Planned job plan) told known =
+    (known.asked, told_job law words files job known.loaded.options told known.loaded.part, known.planned)
+told_answer law words files (Judged job program verdict) told known =
+    let tells = tells_of law words known.part_name (known.name ∷ []) known.options files known.command.accepted known.command.file told in (
+      record {
+        part_name = known.part_name;
+        name = known.name;
+        options = known.options;
+        command = known.command;
+        part = as_told files known.part_name (λ bytes. IsSoundPart bytes known.options job) tells known.read;
+        program_is = known.content tells;
+        short = known.short;
+      },
+      known.judged,
+    )
+told_answer law words files (Counted job counts) told known =
+    (known.asked, told_job law words files job known.loaded.options told known.loaded.part, known.counted)
+told_answer law words files (Made seed) told known = known
+
+pub ends_answered : SaysOneThing → (words : List (List ℕ)) (files : FilesState) (answer : Answer) (status : Status) (out out_after err : SinkState)
+    → IsKnown words files → IsFound words files answer → IsWritten status out out_after answer → Ends words files.given status out out_after err err
+ends_answered law words files answer status out out_after err told known was = record {
   text = answer_text answer;
   message = [];
-  outcome = answered answer (told_answer words files answer told known) was.status_is refl refl;
+  outcome = answered answer (told_answer law words files answer told known) was.status_is refl refl;
   written = was.written;
   told = takes-nothing err;
 }
 
 -- Programs.
 
-pub compiles : SaysOneThing → (words : List (List ℕ)) (files : FilesState) (answer : Answer) (status : Status) (out out_after : SinkState) (part : List ℕ) (o : Options)
-    → IsCompile words part o → IsFound words files answer → IsWritten status out out_after answer → Compiles words files out out_after
-compiles law words files (Planned job plan) status out out_after part o command known was =
+pub compiles : SaysOneThing → (words : List (List ℕ)) (files : FilesState) (answer : Answer) (status : Status) (out out_after : SinkState)
+    → AsksFor words Compile → IsFound words files answer → IsWritten status out out_after answer → Compiles words files out out_after
+compiles law words files (Planned job plan) status out out_after asked known was =
     record { job = job; plan = plan; prepared = known; written = was.written }
-compiles law words files (Judged job program verdict) status out out_after part o command known was =
-    absurd (not_both law words part known.part_name known.name o known.options command known.command)
+compiles law words files (Judged job program verdict) status out out_after asked known was =
+    absurd (other_sort law words files (Judged job program verdict) 0 known (Compile, asked, refl) (λ e. omega (arith, e)))
+compiles law words files (Counted job counts) status out out_after asked known was =
+    absurd (other_sort law words files (Counted job counts) 0 known (Compile, asked, refl) (λ e. omega (arith, e)))
+compiles law words files (Made seed) status out out_after asked known was =
+    absurd (other_sort law words files (Made seed) 0 known (Compile, asked, refl) (λ e. omega (arith, e)))
 
 pub completes : SaysOneThing → (words : List (List ℕ)) (files : FilesState) (answer : Answer) (given : List ℕ → ℕ → List ℕ) (job : Job)
     → IsJobOf words given job → IsFound words files answer → answer_status answer ≡ Done
-completes law words files (Planned job plan) given asked command known = refl
-completes law words files (Judged job program verdict) given asked command known =
-    absurd (not_both law words command.name known.part_name known.name command.options known.options command.command known.command)
+completes law words files (Planned job plan) given own asked known = refl
+completes law words files (Judged job program verdict) given own asked known =
+    absurd (part_or_case law words given asked.bytes known.part_name known.name asked.options known.options asked.part known.command)
+completes law words files (Counted job counts) given own asked known = refl
+completes law words files (Made seed) given own asked known = refl
+
+-- Counts and parts.
+
+pub reports : SaysOneThing → (words : List (List ℕ)) (files : FilesState) (answer : Answer) (status : Status) (out out_after : SinkState)
+    → AsksForCounts words → IsFound words files answer → IsWritten status out out_after answer → Reports words files out out_after
+reports law words files (Counted job counts) status out out_after asked known was =
+    record { job = job; counts = counts; reported = known; written = was.written }
+reports law words files (Planned job plan) status out out_after asked known was =
+    absurd (other_sort law words files (Planned job plan) 2 known (counts_sort words asked) (λ e. omega (arith, e)))
+reports law words files (Judged job program verdict) status out out_after asked known was =
+    absurd (other_sort law words files (Judged job program verdict) 2 known (counts_sort words asked) (λ e. omega (arith, e)))
+reports law words files (Made seed) status out out_after asked known was =
+    absurd (other_sort law words files (Made seed) 2 known (counts_sort words asked) (λ e. omega (arith, e)))
+
+pub makes : SaysOneThing → (words : List (List ℕ)) (files : FilesState) (answer : Answer) (status : Status) (out out_after : SinkState) (seed : ℕ)
+    → IsMake words seed → IsFound words files answer → IsWritten status out out_after answer → Takes out out_after (generated_text seed)
+makes law words files (Made own) status out out_after seed asked known was =
+    subst (λ n. Takes out out_after (generated_text n)) (same_seed law words own seed known asked) was.written
+makes law words files (Planned job plan) status out out_after seed asked known was =
+    absurd (other_sort law words files (Planned job plan) 3 known (Make, asks_make words seed asked, refl) (λ e. omega (arith, e)))
+makes law words files (Judged job program verdict) status out out_after seed asked known was =
+    absurd (other_sort law words files (Judged job program verdict) 3 known (Make, asks_make words seed asked, refl) (λ e. omega (arith, e)))
+makes law words files (Counted job counts) status out out_after seed asked known was =
+    absurd (other_sort law words files (Counted job counts) 3 known (Make, asks_make words seed asked, refl) (λ e. omega (arith, e)))
+
+pub generates : SaysOneThing → (words : List (List ℕ)) (files : FilesState) (answer : Answer) → AsksFor words Make → IsFound words files answer → answer_status answer ≡ Done
+generates law words files (Planned job plan) asked known = refl
+generates law words files (Judged job program verdict) asked known =
+    absurd (other_sort law words files (Judged job program verdict) 3 known (Make, asked, refl) (λ e. omega (arith, e)))
+generates law words files (Counted job counts) asked known = refl
+generates law words files (Made seed) asked known = refl
 
 -- Verdicts.
 
@@ -119,11 +184,9 @@ done_or_no : (verdict : Verdict) → (status_of_verdict verdict ≡ Done) ⊎ (s
 done_or_no Yes = inl refl
 done_or_no verdict = inr refl
 
-pub approves : SaysOneThing → (words : List (List ℕ)) (files : FilesState) (answer : Answer) (status : Status) (out out_after : SinkState) (part program : List ℕ) (o : Options)
-    → IsVerify words part program o → status ≡ Done → IsFound words files answer → IsWritten status out out_after answer → Approves words files out out_after
-approves law words files (Planned job plan) status out out_after part program o command done known was =
-    absurd (not_both law words known.name part program known.options o known.command command)
-approves law words files (Judged job text verdict) status out out_after part program o command done known was =
+pub approves : SaysOneThing → (words : List (List ℕ)) (files : FilesState) (answer : Answer) (status : Status) (out out_after : SinkState)
+    → AsksFor words Verify → status ≡ Done → IsFound words files answer → IsWritten status out out_after answer → Approves words files out out_after
+approves law words files (Judged job text verdict) status out out_after asked done known was =
     let good = no_yes verdict (sym was.status_is ∙ done) in
     let judged = subst (IsJudged words files job text) good known in
     record {
@@ -133,10 +196,18 @@ approves law words files (Judged job text verdict) status out out_after part pro
       good = judged.judged;
       written = subst (λ v. Takes out out_after (answer_text (Judged job text v))) good was.written;
     }
+approves law words files (Planned job plan) status out out_after asked done known was =
+    absurd (other_sort law words files (Planned job plan) 1 known (Verify, asked, refl) (λ e. omega (arith, e)))
+approves law words files (Counted job counts) status out out_after asked done known was =
+    absurd (other_sort law words files (Counted job counts) 1 known (Verify, asked, refl) (λ e. omega (arith, e)))
+approves law words files (Made seed) status out out_after asked done known was =
+    absurd (other_sort law words files (Made seed) 1 known (Verify, asked, refl) (λ e. omega (arith, e)))
+
+not_refused : (status : Status) → status ≡ No → status ≡ Done → ⊥
+not_refused status refuses done = let e : Done ≡ No = sym done ∙ refuses in absurd (cc)
 
 pub rejects : ProgramsHaveOneVerdict → (words : List (List ℕ)) (files : FilesState) (answer : Answer) (status : Status) (out out_after : SinkState)
     → status ≡ No → IsFound words files answer → IsWritten status out out_after answer → Rejects words files out out_after
-rejects law words files (Planned job plan) status out out_after refuses known was = let e : Done ≡ No = sym was.status_is ∙ refuses in absurd (cc)
 rejects law words files (Judged job program verdict) status out out_after refuses known was = record {
   job = job;
   program = program;
@@ -145,6 +216,9 @@ rejects law words files (Judged job program verdict) status out out_after refuse
   bad = λ good. yes_no verdict (sym was.status_is ∙ refuses) (law job program verdict Yes known.judged good);
   written = was.written;
 }
+rejects law words files (Planned job plan) status out out_after refuses known was = absurd (not_refused status refuses was.status_is)
+rejects law words files (Counted job counts) status out out_after refuses known was = absurd (not_refused status refuses was.status_is)
+rejects law words files (Made seed) status out out_after refuses known was = absurd (not_refused status refuses was.status_is)
 
 pub answers : (words : List (List ℕ)) (files : FilesState) (answer : Answer) (status : Status) (out out_after err : SinkState) → IsFound words files answer
     → IsWritten status out out_after answer → Answers words files status out out_after err err
@@ -155,6 +229,8 @@ answers words files answer status out out_after err known was =
 pub either_status : (answer : Answer) → (answer_status answer ≡ Done) ⊎ (answer_status answer ≡ No)
 either_status (Planned job plan) = inl refl
 either_status (Judged job program verdict) = done_or_no verdict
+either_status (Counted job counts) = inl refl
+either_status (Made seed) = inl refl
 
 -- a status that is written is no fault
 pub no_fault : (status : Status) → (status ≡ Done) ⊎ (status ≡ No) → status ≢ WriteFault
@@ -196,11 +272,15 @@ same_good law job other program another verdict same alike is = (
 
 pub exactly : SaysOneThing → ProgramsHaveOneVerdict → OneCase → (words : List (List ℕ)) (files : FilesState) (answer : Answer) (job : Job) (program : List ℕ) → IsTrue files.tells
     → IsCaseOf words files.given job program → IsFound words files answer → (answer_status answer ≡ Done) ↔ Good job program
-exactly law one case words files (Planned j plan) job program told asked known =
-    absurd (not_both law words known.name asked.part_name asked.name known.options asked.options known.command asked.command)
 exactly law one case words files (Judged j text verdict) job program told asked known =
-    let (same, alike) = case words files.given j job text program (told_answer words files (Judged j text verdict) told known).0 asked in
+    let (same, alike) = case words files.given j job text program (told_answer law words files (Judged j text verdict) (inl told) known).0 asked in
     same_good one j job text program verdict same alike known.judged
+exactly law one case words files (Planned j plan) job program told asked known =
+    absurd (other_sort law words files (Planned j plan) 1 known (Verify, asks_verify words asked.part_name asked.name asked.options asked.command, refl) (λ e. omega (arith, e)))
+exactly law one case words files (Counted j counts) job program told asked known =
+    absurd (other_sort law words files (Counted j counts) 1 known (Verify, asks_verify words asked.part_name asked.name asked.options asked.command, refl) (λ e. omega (arith, e)))
+exactly law one case words files (Made seed) job program told asked known =
+    absurd (other_sort law words files (Made seed) 1 known (Verify, asks_verify words asked.part_name asked.name asked.options asked.command, refl) (λ e. omega (arith, e)))
 
 -- Refusals.
 
@@ -225,7 +305,7 @@ device_too : (status : Status) (refusal : Refusal) → (status ≡ status_of ref
 device_too status refusal (inl is) device = subst IsOfDevices (sym is) device
 device_too status refusal (inr is) device = inr (inl is)
 
-pub ends_refused : (words : List (List ℕ)) (before after : FilesState) (refusal : Refusal) (status : Status) (out err err_after : SinkState) → IsTrue before.tells
+pub ends_refused : (words : List (List ℕ)) (before after : FilesState) (refusal : Refusal) (status : Status) (out err err_after : SinkState) → IsKnown words before
     → Explains words before after refusal → status ≡ status_of refusal → Takes err err_after (refusal_text refusal) → ¬ IsOfDevices status
     → Ends words before.given status out out err err_after
 ends_refused words before after refusal status out err err_after told why is takes devices = elim (refusal_or_device words before after refusal told why) [
@@ -240,7 +320,7 @@ ends_refused words before after refusal status out err err_after told why is tak
 ]
 
 -- what is asked for is refused for want of memory or by a device alone
-pub job_by_devices : SaysOneThing → SoundOrRefused → (words : List (List ℕ)) (before after : FilesState) (refusal : Refusal) (status : Status) (job : Job) → IsTrue before.tells
+pub job_by_devices : SaysOneThing → SoundOrRefused → (words : List (List ℕ)) (before after : FilesState) (refusal : Refusal) (status : Status) (job : Job) → IsKnown words before
     → Explains words before after refusal → IsJobOf words before.given job → (status ≡ status_of refusal) ⊎ (status ≡ WriteFault) → IsOfDevices status
 job_by_devices one law words before after refusal status job told why asked is = elim (refusal_or_device words before after refusal told why) [
   | inl cause ↦ absurd (job_not_refused one law words before.given job refusal asked cause)
@@ -250,7 +330,16 @@ job_by_devices one law words before after refusal status job told why asked is =
 pub case_by_devices : SaysOneThing → SoundOrRefused → (words : List (List ℕ)) (before after : FilesState) (refusal : Refusal) (status : Status) (job : Job) (program : List ℕ)
     → IsTrue before.tells → Explains words before after refusal → IsCaseOf words before.given job program → (status ≡ status_of refusal) ⊎ (status ≡ WriteFault)
     → IsOfDevices status
-case_by_devices one law words before after refusal status job program told why asked is = elim (refusal_or_device words before after refusal told why) [
+case_by_devices one law words before after refusal status job program told why asked is = elim (refusal_or_device words before after refusal (inl told) why) [
   | inl cause ↦ absurd (case_not_refused one law words before.given job program refusal asked cause)
+  | inr device ↦ device_too status refusal is device
+]
+
+pub make_by_devices : SaysOneThing → (words : List (List ℕ)) (before after : FilesState) (refusal : Refusal) (status : Status) → Explains words before after refusal
+    → AsksFor words Make → (status ≡ status_of refusal) ⊎ (status ≡ WriteFault) → IsOfDevices status
+make_by_devices one words before after refusal status why asked is = elim (refusal_or_device words before after refusal (inr (make_alone words asked)) why) [
+  | inl cause ↦
+      absurd (make_not_refused one words before.given asked.options.seed refusal
+      (record { options = asked.options; accepted = asked.accepted; makes = asked.asks; seed_is = refl }) cause)
   | inr device ↦ device_too status refusal is device
 ]

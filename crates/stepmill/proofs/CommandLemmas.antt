@@ -1,60 +1,15 @@
--- Words that are carried out, and where others are turned away.
-use Rattle.std.proofs.Common.{ℕ, zero, suc, ◌≡◌, ◌≢◌, ◌⊎◌, ◌-◌, inl, inr, List, [], ◌∷◌, ◌++◌, length, take, codes, Some, Result, Ok, Err, IfOk, refl, sym, ap, subst, ◌∙◌, arith}
-use Rattle.std.specs.Prelude.{slice_get}
-use Rattle.std.proofs.lemmas.List.Elements.{All-nil, All-cons}
-use Rattle.sn_words.proofs.Departures.{departs_first, departs_empty, one_place}
-use Rattle.sn_words.specs.Command.{IsAccepted, IsCommand, IsRead, Begins, DepartsAt, TakesFiles, TakesSeed, command_word, with_files}
+-- What words ask for.
+use Rattle.std.proofs.Common.{ℕ, ◌≡◌, ◌⊎◌, inl, inr, List, [], ◌∷◌, length, refl, sym, ap, subst, ◌∙◌, arith}
+use Rattle.sn_words.specs.Command.{IsAccepted, IsCommand, TakesFiles, TakesSeed}
+use Rattle.sn_words.specs.CommandLaws.{SaysOneThing}
 use Rattle.sn_words.specs.Options.{Options}
-use Rattle.sn_words.specs.WordForms.{IsFileWord}
-use Rattle.sn_words.specs.declared.fault.WordFault.{WordFault}
 use Rattle.sn_words.specs.declared.options.Command.{Command}
-use Rattle.sn_words.specs.declared.options.Command.TheVariants.{Compile, Verify}
-use Rattle.stepmill.specs.Command.{IsCarriedOut, IsCompile, IsTurnedAway, IsVerify}
-use Rattle.stepmill.specs.CommandLaws.{CompileGoesByTheGrammar, VerifyGoesByTheGrammar, OthersAreTurnedAway, OnePlace}
+use Rattle.sn_words.specs.declared.options.Command.TheVariants.{Compile, Verify, Report, Make, Trial}
+use Rattle.stepmill.specs.Answer.{Answer, Planned, Judged, Counted, Made}
+use Rattle.stepmill.specs.Command.{AsksFor, AsksForCounts, IsMake, IsOfFile, IsOfSeed, IsVerify, NamesNoFile}
+use Rattle.stepmill.specs.CommandLaws.{AcceptedWordsAsk, OneCommand, TrialsHaveNoOptions}
 
--- Words that are carried out.
-
-file_word : IsFileWord (codes "p")
-file_word = λ e. absurd (omega arith)
-
--- some words are carried out
-some_command : Begins IsCarriedOut []
-some_command = (
-  codes "compile" ∷ codes "p" ∷ [],
-  inl (
-    codes "p",
-    with_files Compile (codes "p" ∷ []) [],
-    record {
-      accepted = inl (record {
-        command = Compile;
-        files = codes "p" ∷ [];
-        rest = [];
-        settings = [];
-        order = refl;
-        takes = refl;
-        names = All-cons IsFileWord (codes "p") [] file_word (All-nil IsFileWord);
-        settings_are = record { order = refl; read = All-nil IsRead; single = λ i j d before within. absurd (omega arith) };
-        says = refl;
-      });
-      compiles = refl;
-      file = refl;
-    },
-  ),
-)
-
-first_byte : List ℕ → ℕ
-first_byte [] = 0
-first_byte (c ∷ cs) = c
-
-is_compile : (c : Command) → codes "compile" ≡ command_word c → c ≡ Compile
-unfolding first_byte
-is_compile Compile e = refl
-is_compile c e = let h = ap first_byte e in absurd (omega (arith, h))
-
-is_verify : (c : Command) → codes "verify" ≡ command_word c → c ≡ Verify
-unfolding first_byte
-is_verify Verify e = refl
-is_verify c e = let h = ap first_byte e in absurd (omega (arith, h))
+-- The files that a command names.
 
 one_file : (files : List (List ℕ)) → length files ≡ 1 → (part : List ℕ) × (files ≡ part ∷ [])
 one_file [] e = absurd (omega arith)
@@ -67,143 +22,153 @@ two_files (part ∷ []) e = absurd (omega arith)
 two_files (part ∷ program ∷ []) e = (part, program, refl)
 two_files (part ∷ program ∷ other ∷ more) e = absurd (omega arith)
 
--- what the grammar says of words behind compile
-asks : (later : List (List ℕ)) (o : Options) → IsCommand (codes "compile" ∷ later) o → (part : List ℕ) × IsCompile (codes "compile" ∷ later) part o
-asks later o (inl h) =
-    let command = is_compile h.command (let order = h.order in cc) in
-    let (part, file) = one_file h.files (subst (λ c. TakesFiles c (length h.files)) command h.takes) in (
-      part,
-      record {
-        accepted = inl h;
-        compiles = ap (λ (p : Options). p.command) h.says ∙ command;
-        file = ap (λ (p : Options). p.files) h.says ∙ file;
-      },
-    )
-asks later o (inr h) = absurd (subst TakesSeed (is_compile h.command (let order = h.order in cc)) h.takes)
+-- Accepted words ask for one thing.
 
--- and behind verify
-asks_verdict : (later : List (List ℕ)) (o : Options) → IsCommand (codes "verify" ∷ later) o
-    → (part : List ℕ) × (program : List ℕ) × IsVerify (codes "verify" ∷ later) part program o
-asks_verdict later o (inl h) =
-    let command = is_verify h.command (let order = h.order in cc) in
-    let (part, program, file) = two_files h.files (subst (λ c. TakesFiles c (length h.files)) command h.takes) in (
-      part,
-      program,
-      record {
-        accepted = inl h;
-        verifies = ap (λ (p : Options). p.command) h.says ∙ command;
-        file = ap (λ (p : Options). p.files) h.says ∙ file;
-      },
-    )
-asks_verdict later o (inr h) = absurd (subst TakesSeed (is_verify h.command (let order = h.order in cc)) h.takes)
+abbrev pub AsksSome : List (List ℕ) → Options → Type 0
+AsksSome words o =
+    ((part : List ℕ) × IsOfFile words part o) ⊎ (IsOfSeed words o ⊎ (((part : List ℕ) × (program : List ℕ) × IsVerify words part program o) ⊎ IsMake words o.seed))
 
--- words behind this one are carried out where the grammar accepts them
-abbrev GoesByTheGrammar : List ℕ → Type 0
-GoesByTheGrammar word = (later : List (List ℕ)) → IsAccepted (word ∷ later) → IsCarriedOut (word ∷ later)
+asks_by_file : (words : List (List ℕ)) (o : Options) (command : Command) (files : List (List ℕ)) → IsCommand words o → TakesFiles command (length files)
+    → o.command ≡ command → o.files ≡ files → AsksSome words o
+asks_by_file words o Compile files accepted takes is same =
+    let (part, one) = one_file files takes in inl (part, record { accepted = accepted; plans = inl is; file = same ∙ one })
+asks_by_file words o Report files accepted takes is same =
+    let (part, one) = one_file files takes in inl (part, record { accepted = accepted; plans = inr is; file = same ∙ one })
+asks_by_file words o Verify files accepted takes is same =
+    let (part, program, two) = two_files files takes in inr (inr (inl (part, program, record { accepted = accepted; verifies = is; file = same ∙ two })))
+asks_by_file words o Make files accepted takes is same = absurd takes
+asks_by_file words o Trial files accepted takes is same = absurd takes
 
-carried : GoesByTheGrammar (codes "compile")
-carried later (o, command) = let (part, compile) = asks later o command in inl (part, o, compile)
+asks_by_seed : (words : List (List ℕ)) (o : Options) (command : Command) → IsCommand words o → TakesSeed command → o.command ≡ command → AsksSome words o
+asks_by_seed words o Compile accepted takes is = absurd takes
+asks_by_seed words o Report accepted takes is = absurd takes
+asks_by_seed words o Verify accepted takes is = absurd takes
+asks_by_seed words o Make accepted takes is = inr (inr (inr (record { options = o; accepted = accepted; makes = is; seed_is = refl })))
+asks_by_seed words o Trial accepted takes is = inr (inl (record { accepted = accepted; tries = is }))
 
-carried_verdict : GoesByTheGrammar (codes "verify")
-carried_verdict later (o, command) = let (part, program, verify) = asks_verdict later o command in inr (part, program, o, verify)
+pub accepted_words_ask : AcceptedWordsAsk
+accepted_words_ask words o (inl h) =
+    asks_by_file words o h.command h.files (inl h) h.takes (ap (λ (q : Options). q.command) h.says) (ap (λ (q : Options). q.files) h.says)
+accepted_words_ask words o (inr h) = asks_by_seed words o h.command (inr h) h.takes (ap (λ (q : Options). q.command) h.says)
 
-accepted : (words : List (List ℕ)) → IsCarriedOut words → IsAccepted words
-accepted words (inl (part, o, compile)) = (o, compile.accepted)
-accepted words (inr (part, program, o, verify)) = (o, verify.accepted)
+-- Words ask for what one command gives.
 
--- the first word of a command
-first_of : (word : List ℕ) (later : List (List ℕ)) (o : Options) → IsCommand (word ∷ later) o → word ≡ command_word o.command
-first_of word later o (inl h) =
-    let order = h.order in
-    let same : word ≡ command_word h.command = cc in
-    same ∙ ap command_word (sym (ap (λ (p : Options). p.command) h.says))
-first_of word later o (inr h) =
-    let order = h.order in
-    let same : word ≡ command_word h.command = cc in
-    same ∙ ap command_word (sym (ap (λ (p : Options). p.command) h.says))
+-- words say one thing
+pub one_request : SaysOneThing → (words : List (List ℕ)) (o p : Options) → IsCommand words o → IsCommand words p → p ≡ o
+one_request law words o p first second = law words p o second first
 
-first_is : (word : List ℕ) (later : List (List ℕ)) → IsCarriedOut (word ∷ later) → (word ≡ codes "compile") ⊎ (word ≡ codes "verify")
-first_is word later (inl (part, o, compile)) = inl (first_of word later o compile.accepted ∙ ap command_word compile.compiles)
-first_is word later (inr (part, program, o, verify)) = inr (first_of word later o verify.accepted ∙ ap command_word verify.verifies)
+pub files_of : (o p : Options) → p ≡ o → p.files ≡ o.files
+files_of o p same = ap (λ (q : Options). q.files) same
 
--- Words that are turned away.
+pub command_of : (o p : Options) → p ≡ o → p.command ≡ o.command
+command_of o p same = ap (λ (q : Options). q.command) same
 
-no_words : (o : Options) → ¬ IsCommand [] o
-no_words o (inl h) = let order = h.order in cc
-no_words o (inr h) = let order = h.order in cc
+pub one_command : SaysOneThing → OneCommand
+one_command law words some other first second =
+    sym first.asks ∙ sym (command_of first.options second.options (one_request law words first.options second.options first.accepted second.accepted)) ∙ second.asks
 
-others : (word : List ℕ) (later : List (List ℕ)) → word ≢ codes "compile" → word ≢ codes "verify" → IsTurnedAway (word ∷ later) 1
-others word later other another = departs_first IsCarriedOut word later some_command
-    (λ more command. elim (first_is word more command) [ inl compile ↦ other compile | inr verify ↦ another verify ])
+-- Words that name no file.
 
--- words that begin neither with compile nor with verify
-pub turned_away : (words : List (List ℕ)) → slice_get words 0 ≢ Some (codes "compile") → slice_get words 0 ≢ Some (codes "verify") → IsTurnedAway words 1
-turned_away [] other another =
-    departs_empty IsCarriedOut some_command (λ command. let (o, accepts) = accepted [] command in no_words o accepts)
-turned_away (word ∷ later) other another = others word later (λ e. other (ap Some e)) (λ e. another (ap Some e))
+no_file : (words : List (List ℕ)) (o : Options) (c : Command) → ((n : ℕ) → ¬ TakesFiles c n) → IsCommand words o → o.command ≡ c → o.files ≡ []
+no_file words o c none (inl h) is =
+    absurd (none (length h.files) (subst (λ (d : Command). TakesFiles d (length h.files)) (sym (ap (λ (q : Options). q.command) h.says) ∙ is) h.takes))
+no_file words o c none (inr h) is = ap (λ (q : Options). q.files) h.says
 
-begins_too : (word : List ℕ) → GoesByTheGrammar word → (later : List (List ℕ)) (k : ℕ) → Begins IsAccepted (take k (word ∷ later))
-    → Begins IsCarriedOut (take k (word ∷ later))
-begins_too word goes later zero begins = some_command
-begins_too word goes later (suc k) (more, command) = (more, goes (take k later ++ more) command)
+pub make_alone : (words : List (List ℕ)) → AsksFor words Make → NamesNoFile words
+make_alone words asked =
+    record { options = asked.options; accepted = asked.accepted; none = no_file words asked.options Make (λ _ takes. takes) asked.accepted asked.asks }
 
-departs_too : (word : List ℕ) → GoesByTheGrammar word → (later : List (List ℕ)) (place : ℕ) → DepartsAt (word ∷ later) place → IsTurnedAway (word ∷ later) place
-departs_too word goes later place d = record {
-  first = d.first;
-  before = begins_too word goes later (place - 1) d.before;
-  at = (
-    λ within begins. d.at.0 within (begins.0, accepted _ begins.1),
-    λ past. ((d.at.1 past).0, (λ command. (d.at.1 past).1 (accepted _ command))),
-  );
-}
+pub trial_alone : (words : List (List ℕ)) (o : Options) → IsOfSeed words o → NamesNoFile words
+trial_alone words o asked = record { options = o; accepted = asked.accepted; none = no_file words o Trial (λ _ takes. takes) asked.accepted asked.tries }
 
--- Words that begin with such a word, as they are read.
+-- Trials.
 
-begins_with : (words : List (List ℕ)) (word : List ℕ) → slice_get words 0 ≡ Some word → (later : List (List ℕ)) × (words ≡ word ∷ later)
-begins_with [] word e = absurd (cc)
-begins_with (first ∷ later) word e = (later, (let same : first ≡ word = cc in ap (λ w. w ∷ later) same))
+trial_takes_no_file : (c : Command) (n : ℕ) → TakesFiles c n → c ≡ Trial → ⊥
+trial_takes_no_file c n takes is = subst (λ (d : Command). TakesFiles d n) is takes
 
--- the words begin with one of the two
-abbrev pub BeginsEither : List (List ℕ) → Type 0
-BeginsEither words = (slice_get words 0 ≡ Some (codes "compile")) ⊎ (slice_get words 0 ≡ Some (codes "verify"))
+pub trials_have_no_options : TrialsHaveNoOptions
+trials_have_no_options words o asked = elim asked.accepted [
+  | inl h ↦ absurd (trial_takes_no_file h.command (length h.files) h.takes (sym (ap (λ (q : Options). q.command) h.says) ∙ asked.tries))
+  | inr h ↦ (
+    ap (λ (q : Options). q.pitch) h.says,
+    ap (λ (q : Options). q.raw) h.says,
+    ap (λ (q : Options). q.sets) h.says,
+    trial_alone words o asked,
+  )
+]
 
--- what they ask for
-abbrev pub AsksWith : List (List ℕ) → Options → Type 0
-AsksWith words o = ((part : List ℕ) × IsCompile words part o) ⊎ ((part : List ℕ) × (program : List ℕ) × IsVerify words part program o)
+-- Which commands ask for what.
 
-asked_of : (words : List (List ℕ)) (o : Options) → BeginsEither words → IsCommand words o → AsksWith words o
-asked_of words o (inl first) command =
-    let (later, is) = begins_with words (codes "compile") first in
-    subst (λ w. AsksWith w o) (sym is) (inl (asks later o (subst (λ w. IsCommand w o) is command)))
-asked_of words o (inr first) command =
-    let (later, is) = begins_with words (codes "verify") first in
-    subst (λ w. AsksWith w o) (sym is) (inr (asks_verdict later o (subst (λ w. IsCommand w o) is command)))
+pub file_accepted : (words : List (List ℕ)) (name : List ℕ) (o : Options) → IsOfFile words name o → IsAccepted words
+file_accepted words name o command = (o, command.accepted)
 
-pub asked : (words : List (List ℕ)) (r : Result Options WordFault) → BeginsEither words → IfOk r (λ o. IsCommand words o) → IfOk r (λ o. AsksWith words o)
-asked words (Ok o) first command = asked_of words o first command
-asked words (Err fault) first command = tt
+-- of what sort the answer of a command is
+abbrev pub sort_of : Command → ℕ
+sort_of Compile = 0
+sort_of Verify = 1
+sort_of Report = 2
+sort_of Trial = 2
+sort_of Make = 3
 
-departed_from : (words : List (List ℕ)) (word : List ℕ) (place : ℕ) → GoesByTheGrammar word → slice_get words 0 ≡ Some word → DepartsAt words place
-    → IsTurnedAway words place
-departed_from words word place goes first d =
-    let (later, is) = begins_with words word first in
-    subst (λ w. IsTurnedAway w place) (sym is) (departs_too word goes later place (subst (λ w. DepartsAt w place) is d))
+-- whether the command plans a part, or does something else
+abbrev pub plans : Command → ℕ
+plans Compile = 0
+plans Report = 0
+plans Trial = 1
+plans Verify = 2
+plans Make = 3
 
-pub departed : (words : List (List ℕ)) (place : ℕ) → BeginsEither words → DepartsAt words place → IsTurnedAway words place
-departed words place (inl first) d = departed_from words (codes "compile") place carried first d
-departed words place (inr first) d = departed_from words (codes "verify") place carried_verdict first d
+-- the words ask for a command of this number
+abbrev pub IsNumbered : (Command → ℕ) → List (List ℕ) → ℕ → Type 0
+IsNumbered number words n = (c : Command) × AsksFor words c × (number c ≡ n)
 
--- Laws.
+pub one_number : SaysOneThing → (number : Command → ℕ) (words : List (List ℕ)) (n m : ℕ) → IsNumbered number words n → IsNumbered number words m → n ≡ m
+one_number law number words n m (c, asks, is) (d, asks_too, is_too) = sym is ∙ ap number (one_command law words c d asks asks_too) ∙ is_too
 
-pub compile_goes_by_the_grammar : CompileGoesByTheGrammar
-compile_goes_by_the_grammar later place = ((accepted (codes "compile" ∷ later), carried later), departs_too (codes "compile") carried later place)
+pub file_number : (words : List (List ℕ)) (name : List ℕ) (o : Options) → IsOfFile words name o → IsNumbered plans words 0
+file_number words name o command = elim command.plans [
+  | inl is ↦ (Compile, record { options = o; accepted = command.accepted; asks = is }, refl)
+  | inr is ↦ (Report, record { options = o; accepted = command.accepted; asks = is }, refl)
+]
 
-pub verify_goes_by_the_grammar : VerifyGoesByTheGrammar
-verify_goes_by_the_grammar later place =
-    ((accepted (codes "verify" ∷ later), carried_verdict later), departs_too (codes "verify") carried_verdict later place)
+pub seed_number : (words : List (List ℕ)) (o : Options) → IsOfSeed words o → IsNumbered plans words 1
+seed_number words o command = (Trial, record { options = o; accepted = command.accepted; asks = command.tries }, refl)
 
-pub others_are_turned_away : OthersAreTurnedAway
-others_are_turned_away = others
+pub asks_verify : (words : List (List ℕ)) (part name : List ℕ) (o : Options) → IsVerify words part name o → AsksFor words Verify
+asks_verify words part name o command = record { options = o; accepted = command.accepted; asks = command.verifies }
 
-pub one_place_alone : OnePlace
-one_place_alone = one_place IsCarriedOut
+pub verify_number : (words : List (List ℕ)) (part name : List ℕ) (o : Options) → IsVerify words part name o → IsNumbered plans words 2
+verify_number words part name o command = (Verify, asks_verify words part name o command, refl)
+
+pub asks_make : (words : List (List ℕ)) (seed : ℕ) → IsMake words seed → AsksFor words Make
+asks_make words seed command = record { options = command.options; accepted = command.accepted; asks = command.makes }
+
+pub make_number : (words : List (List ℕ)) (seed : ℕ) → IsMake words seed → IsNumbered plans words 3
+make_number words seed command = (Make, asks_make words seed command, refl)
+
+-- words that name a file do not name none
+pub names_some : SaysOneThing → (words : List (List ℕ)) (name : List ℕ) (more : List (List ℕ)) (o : Options) → IsCommand words o → o.files ≡ name ∷ more
+    → ¬ NamesNoFile words
+names_some law words name more o accepted files none =
+    let same = files_of o none.options (one_request law words o none.options accepted none.accepted) in
+    let e : 0 ≡ length (name ∷ more) = ap length (sym none.none ∙ same ∙ files) in
+    absurd (omega (arith, e))
+
+-- Answers.
+
+-- of what sort an answer is
+abbrev pub answer_sort : Answer → ℕ
+answer_sort (Planned job plan) = 0
+answer_sort (Judged job program verdict) = 1
+answer_sort (Counted job counts) = 2
+answer_sort (Made seed) = 3
+
+pub counts_sort : (words : List (List ℕ)) → AsksForCounts words → IsNumbered sort_of words 2
+counts_sort words (inl report) = (Report, report, refl)
+counts_sort words (inr trial) = (Trial, trial, refl)
+
+-- words ask for the part of one seed
+pub same_seed : SaysOneThing → (words : List (List ℕ)) (m n : ℕ) → IsMake words m → IsMake words n → m ≡ n
+same_seed law words m n first second =
+    let same = one_request law words first.options second.options first.accepted second.accepted in
+    sym first.seed_is ∙ sym (ap (λ (o : Options). o.seed) same) ∙ second.seed_is

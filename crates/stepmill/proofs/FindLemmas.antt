@@ -5,44 +5,60 @@ use Rattle.std.specs.List.{All}
 use Rattle.std.proofs.lemmas.List.Elements.{All-head, All-tail}
 use Rattle.sn_io.specs.Count.{count_after}
 use Rattle.sn_io.specs.Files.{FilesState}
-use Rattle.sn_io.proofs.SinkLemmas.{count_after-none}
 use Rattle.sn_open.specs.declared.verdict.Verdict.{Verdict}
 use Rattle.sn_words.specs.Command.{IsCommand}
 use Rattle.sn_words.specs.CommandLaws.{SaysOneThing}
 use Rattle.sn_words.specs.Options.{Options}
 use Rattle.sn_words.specs.declared.options.Command.{Command}
-use Rattle.sn_words.specs.declared.options.Command.TheVariants.{Compile, Verify}
+use Rattle.sn_words.specs.declared.options.Command.TheVariants.{Compile, Verify, Report, Make, Trial}
+use Rattle.sn_report.specs.declared.counts.Counts.{Counts}
+use Rattle.stepmill.specs.Answer.{generated_text}
 use Rattle.stepmill.specs.declared.compile.Planned.{Planned}
-use Rattle.stepmill.specs.declared.refusal.Refusal.{Refusal}
-use Rattle.stepmill.specs.declared.refusal.Refusal.TheVariants as refused
-use Rattle.stepmill.specs.declared.reading.TheConstants.{LONGEST, LONGEST_PROGRAM}
-use Rattle.stepmill.specs.Command.{IsCarriedOut, IsCompile, IsVerify}
-use Rattle.stepmill.specs.Found.{IsGoodPlan, IsVerdictOf, IsRefusedCase, ReadsBoth, plan_of}
-use Rattle.stepmill.specs.Outcome.{Explains, IsJudged, IsPrepared, IsReadOf, IsRefusedFile, ReadsOnce, most_bytes, most_reads}
+use Rattle.sn_message.specs.declared.refusal.Refusal.{Refusal}
+use Rattle.sn_message.specs.declared.refusal.Refusal.TheVariants as refused
+use Rattle.stepmill.specs.declared.reading.TheConstants.{LONGEST}
+use Rattle.stepmill.specs.Command.{IsOfFile, IsOfSeed, IsVerify}
+use Rattle.stepmill.specs.Found.{AreCountsWith, IsGoodPlan, IsMemoryOr, IsVerdictOf, IsRefusedCase, ReadsBoth, plan_of}
+use Rattle.stepmill.specs.Outcome.{Explains, IsJudged, IsPrepared, IsReadOf, IsRefusedFile, IsReported, ReadsOnce, most_bytes, most_reads}
+use Rattle.stepmill.specs.Outcome.IsPartOf.{of_file, of_seed}
+use Rattle.stepmill.specs.Outcome.IsPartWith.{of_file_read, of_seed_made}
 use Rattle.stepmill.specs.Outcome.IsRefusal.{uncompiled, unjudged}
 use Rattle.stepmill.specs.Part.{IsCompiledPart, IsUncompiledPart}
 use Rattle.stepmill.specs.Reading.{ReadsFile}
-use Rattle.stepmill.proofs.CommandLemmas.{AsksWith}
-use Rattle.stepmill.proofs.OutcomeLemmas.{command_of, files_of, not_both, one_request}
+use Rattle.stepmill.proofs.CommandLemmas.{accepted_words_ask, command_of, files_of, names_some, one_request}
+use Rattle.stepmill.proofs.OutcomeLemmas.{part_or_case, tells_of}
 
 -- What the words ask for.
 
-pub asks_verify : (words : List (List ℕ)) (o : Options) → AsksWith words o → o.command ≡ Verify → (part : List ℕ) × (program : List ℕ) × IsVerify words part program o
-asks_verify words o (inl (part, compile)) is = let e : Compile ≡ Verify = sym compile.compiles ∙ is in absurd (cc)
-asks_verify words o (inr verify) is = verify
+other_command : (o : Options) (c : Command) → (o.command ≡ Compile) ⊎ (o.command ≡ Report) → o.command ≡ c → Compile ≢ c → Report ≢ c → ⊥
+other_command o c (inl is) other not_first not_second = not_first (sym is ∙ other)
+other_command o c (inr is) other not_first not_second = not_second (sym is ∙ other)
 
-pub asks_compile : (words : List (List ℕ)) (o : Options) → AsksWith words o → o.command ≢ Verify → (part : List ℕ) × IsCompile words part o
-asks_compile words o (inl compile) not = compile
-asks_compile words o (inr (part, program, verify)) not = absurd (not verify.verifies)
+-- by its command
+pub asks_file : SaysOneThing → (words : List (List ℕ)) (o : Options) → IsCommand words o → (o.command ≡ Compile) ⊎ (o.command ≡ Report) → (part : List ℕ) × IsOfFile words part o
+asks_file law words o accepted is = elim (accepted_words_ask words o accepted) [
+  | inl file ↦ file
+  | inr (inl seed) ↦ absurd (other_command o Trial is seed.tries (λ e. cc) (λ e. cc))
+  | inr (inr (inl (part, program, verify))) ↦ absurd (other_command o Verify is verify.verifies (λ e. cc) (λ e. cc))
+  | inr (inr (inr make)) ↦ absurd (other_command o Make is (command_of make.options o (law words o make.options accepted make.accepted) ∙ make.makes) (λ e. cc) (λ e. cc))
+]
+
+pub asks_case : SaysOneThing → (words : List (List ℕ)) (o : Options) → IsCommand words o → o.command ≡ Verify → (part : List ℕ) × (program : List ℕ) × IsVerify words part program o
+asks_case law words o accepted is = elim (accepted_words_ask words o accepted) [
+  | inl (part, file) ↦ absurd (other_command o Verify file.plans is (λ e. cc) (λ e. cc))
+  | inr (inl seed) ↦ let e : Trial ≡ Verify = sym seed.tries ∙ is in absurd (cc)
+  | inr (inr (inl verify)) ↦ verify
+  | inr (inr (inr make)) ↦
+      let e : Make ≡ Verify = sym make.makes ∙ sym (command_of make.options o (law words o make.options accepted make.accepted)) ∙ is in absurd (cc)
+]
 
 -- a command has a first file, and the one that is verified a second one
-pub some_file : (words : List (List ℕ)) (files : List (List ℕ)) (o : Options) → AsksWith words o → files ≡ o.files → 0 < length files
-some_file words files o (inl (part, compile)) same = omega (arith, ap length (same ∙ compile.file))
-some_file words files o (inr (part, program, verify)) same = omega (arith, ap length (same ∙ verify.file))
+pub some_file : SaysOneThing → (words : List (List ℕ)) (files : List (List ℕ)) (o : Options) → IsCommand words o → (o.command ≡ Compile) ⊎ (o.command ≡ Report) → files ≡ o.files
+    → 0 < length files
+some_file law words files o accepted is same = let (part, file) = asks_file law words o accepted is in omega (arith, ap length (same ∙ file.file))
 
-pub two_files : (words : List (List ℕ)) (files : List (List ℕ)) (o : Options) → AsksWith words o → o.command ≡ Verify → files ≡ o.files → 1 < length files
-two_files words files o asks is same =
-    let (part, program, verify) = asks_verify words o asks is in omega (arith, ap length (same ∙ verify.file))
+pub two_files : SaysOneThing → (words : List (List ℕ)) (files : List (List ℕ)) (o : Options) → IsCommand words o → o.command ≡ Verify → files ≡ o.files → 1 < length files
+two_files law words files o accepted is same = let (part, program, verify) = asks_case law words o accepted is in omega (arith, ap length (same ∙ verify.file))
 
 first_of : (files : List (List ℕ)) (first name : List ℕ) (more : List (List ℕ)) → files ≡ first ∷ more → slice_get files 0 ≡ Some name → first ≡ name
 first_of [] first name more e f = absurd (cc)
@@ -53,31 +69,44 @@ second_of [] first second name e f = absurd (cc)
 second_of (other ∷ []) first second name e f = absurd (cc)
 second_of (other ∷ another ∷ later) first second name e f = cc
 
-pub compile_named : (words : List (List ℕ)) (files : List (List ℕ)) (name : List ℕ) (o : Options) → AsksWith words o → o.command ≢ Verify → files ≡ o.files
-    → slice_get files 0 ≡ Some name → IsCompile words name o
-compile_named words files name o asks not same has =
-    let (part, compile) = asks_compile words o asks not in
-    subst (λ n. IsCompile words n o) (first_of files part name [] (same ∙ compile.file) has) compile
+pub file_named : SaysOneThing → (words : List (List ℕ)) (files : List (List ℕ)) (name : List ℕ) (o : Options) → IsCommand words o
+    → (o.command ≡ Compile) ⊎ (o.command ≡ Report) → files ≡ o.files → slice_get files 0 ≡ Some name → IsOfFile words name o
+file_named law words files name o accepted is same has =
+    let (part, file) = asks_file law words o accepted is in
+    subst (λ n. IsOfFile words n o) (first_of files part name [] (same ∙ file.file) has) file
 
-pub verify_named : (words : List (List ℕ)) (files : List (List ℕ)) (name other : List ℕ) (o : Options) → AsksWith words o → o.command ≡ Verify → files ≡ o.files
+pub verify_named : SaysOneThing → (words : List (List ℕ)) (files : List (List ℕ)) (name other : List ℕ) (o : Options) → IsCommand words o → o.command ≡ Verify → files ≡ o.files
     → slice_get files 0 ≡ Some name → slice_get files 1 ≡ Some other → IsVerify words name other o
-verify_named words files name other o asks is same has has_too =
-    let (part, program, verify) = asks_verify words o asks is in
+verify_named law words files name other o accepted is same has has_too =
+    let (part, program, verify) = asks_case law words o accepted is in
     subst (λ n. IsVerify words n other o) (first_of files part name (program ∷ []) (same ∙ verify.file) has)
     (subst (λ n. IsVerify words part n o) (second_of files part program other (same ∙ verify.file) has_too) verify)
 
 -- What was found.
 
-pub prepared : (words : List (List ℕ)) (files : FilesState) (name : List ℕ) (o : Options) (planned : Planned) → IsCompile words name o
+pub prepared : (words : List (List ℕ)) (files : FilesState) (name : List ℕ) (o : Options) (planned : Planned) → IsOfFile words name o → o.command ≡ Compile
     → IsReadOf files name (λ bytes. IsCompiledPart bytes o planned.job) → IsGoodPlan planned → IsPrepared words files planned.job (plan_of planned)
-prepared words files name o planned command read good = record {
-  name = name;
-  options = o;
-  command = command;
-  read = read;
-  rule = good.rule;
+prepared words files name o planned command is read good = record {
+  asked = record { options = o; accepted = command.accepted; asks = is };
+  loaded = record { options = o; part = of_file_read name command read; rule = good.rule };
   planned = good.plan;
   good = good.good;
+}
+
+pub reported : (words : List (List ℕ)) (files : FilesState) (name : List ℕ) (o : Options) (counts : Counts) → IsOfFile words name o → o.command ≡ Report
+    → (is : AreCountsWith (λ job. IsReadOf files name (λ bytes. IsCompiledPart bytes o job)) counts) → IsReported words files is.0 counts
+reported words files name o counts command is (job, read, rule, counted) = record {
+  asked = inl (record { options = o; accepted = command.accepted; asks = is });
+  loaded = record { options = o; part = of_file_read name command read; rule = rule };
+  counted = counted;
+}
+
+pub tried : (words : List (List ℕ)) (files : FilesState) (o : Options) (counts : Counts) → IsOfSeed words o → (is : AreCountsWith (IsCompiledPart (generated_text o.seed) o) counts)
+    → IsReported words files is.0 counts
+tried words files o counts command (job, compiled, rule, counted) = record {
+  asked = inr (record { options = o; accepted = command.accepted; asks = command.tries });
+  loaded = record { options = o; part = of_seed_made command compiled; rule = rule };
+  counted = counted;
 }
 
 pub judged : (words : List (List ℕ)) (files : FilesState) (part name : List ℕ) (o : Options) (verdict : Verdict) → IsVerify words part name o
@@ -96,29 +125,56 @@ judged words files part name o verdict command is = record {
 
 -- Why nothing was found.
 
-pub explains_compile : SaysOneThing → (words : List (List ℕ)) (before after : FilesState) (name : List ℕ) (o : Options) (refusal : Refusal) → IsCompile words name o
+pub explains_file : SaysOneThing → (words : List (List ℕ)) (before after : FilesState) (name : List ℕ) (o : Options) (refusal : Refusal) → IsOfFile words name o
     → after.opens ≡ count_after before.opens 1 → IsRefusedFile before after name (λ bytes. IsUncompiledPart bytes o) refusal → Explains words before after refusal
-explains_compile law words before after name o (refused.Word place) command opens why = absurd why
-explains_compile law words before after name o refused.NotRead command opens why = (inl (name, o, command), why)
-explains_compile law words before after name o refused.NoMemory command opens why = inl (inl (name, o, command), omega (arith, opens))
-explains_compile law words before after name o refused.TooLong command opens why = (
-  inl (name, o, command),
-  (λ part program p verify. absurd (not_both law words name part program o p command verify)),
-  (λ told. uncompiled name o command (why told)),
+explains_file law words before after name o (refused.Word place) command opens why = absurd why
+explains_file law words before after name o refused.NotRead command opens why =
+    ((o, command.accepted), names_some law words name [] o command.accepted command.file, why)
+explains_file law words before after name o refused.NoMemory command opens why = inl ((o, command.accepted), omega (arith, opens))
+explains_file law words before after name o refused.TooLong command opens why = (
+  (o, command.accepted),
+  (λ part program p verify. absurd (part_or_case law words before.given (before.given name 0) part program o p (of_file name command refl) verify)),
+  (λ known.
+      uncompiled (before.given name 0) o (of_file name command refl) (why (tells_of law words name [] o before command.accepted command.file known))),
 )
-explains_compile law words before after name o refusal command opens why = (inl (name, o, command), (λ told. uncompiled name o command (why told)))
+explains_file law words before after name o refusal command opens why = (
+  (o, command.accepted),
+  (λ known.
+      uncompiled (before.given name 0) o (of_file name command refl) (why (tells_of law words name [] o before command.accepted command.file known))),
+)
 
-pub explains_verify : (words : List (List ℕ)) (before after : FilesState) (part name : List ℕ) (o : Options) (refusal : Refusal) → IsVerify words part name o
+pub explains_verify : SaysOneThing → (words : List (List ℕ)) (before after : FilesState) (part name : List ℕ) (o : Options) (refusal : Refusal) → IsVerify words part name o
     → IsRefusedCase before after part name o refusal → Explains words before after refusal
-explains_verify words before after part name o (refused.Word place) command why = absurd why
-explains_verify words before after part name o refused.NotRead command why = (inr (part, name, o, command), why)
-explains_verify words before after part name o refused.NoMemory command why = inl (inr (part, name, o, command), why)
-explains_verify words before after part name o refused.TooLong command why = (
-  inr (part, name, o, command),
+explains_verify law words before after part name o (refused.Word place) command why = absurd why
+explains_verify law words before after part name o refused.NotRead command why =
+    ((o, command.accepted), names_some law words part (name ∷ []) o command.accepted command.file, why)
+explains_verify law words before after part name o refused.NoMemory command why = inl ((o, command.accepted), why)
+explains_verify law words before after part name o refused.TooLong command why = (
+  (o, command.accepted),
   (λ _ _ _ _. why.0),
-  (λ told. unjudged part name o command (why.1 told)),
+  (λ known. unjudged part name o command (why.1 (tells_of law words part (name ∷ []) o before command.accepted command.file known))),
 )
-explains_verify words before after part name o refusal command why = (inr (part, name, o, command), (λ told. unjudged part name o command (why told)))
+explains_verify law words before after part name o refusal command why = (
+  (o, command.accepted),
+  (λ known. unjudged part name o command (why (tells_of law words part (name ∷ []) o before command.accepted command.file known))),
+)
+
+uncounted : SaysOneThing → (words : List (List ℕ)) (files : FilesState) (o : Options) (refusal : Refusal) → IsOfSeed words o → IsUncompiledPart (generated_text o.seed) o refusal
+    → Explains words files files refusal
+uncounted law words files o (refused.Word place) command why = absurd why
+uncounted law words files o refused.NotRead command why = absurd why
+uncounted law words files o refused.NoMemory command why = absurd why
+uncounted law words files o refused.TooLong command why = (
+  (o, command.accepted),
+  (λ part program p verify. absurd (part_or_case law words files.given (generated_text o.seed) part program o p (of_seed command refl) verify)),
+  (λ _. uncompiled (generated_text o.seed) o (of_seed command refl) why),
+)
+uncounted law words files o refusal command why = ((o, command.accepted), (λ _. uncompiled (generated_text o.seed) o (of_seed command refl) why))
+
+pub explains_trial : SaysOneThing → (words : List (List ℕ)) (files : FilesState) (o : Options) (refusal : Refusal) → IsOfSeed words o
+    → IsMemoryOr (IsUncompiledPart (generated_text o.seed) o) refusal → Explains words files files refusal
+explains_trial law words files o refusal command (inl memory) = subst (Explains words files files) (sym memory) (inr refl)
+explains_trial law words files o refusal command (inr why) = uncounted law words files o refusal command why
 
 -- What was read.
 
@@ -131,22 +187,35 @@ more count n = omega arith
 pub reads_nothing : (words : List (List ℕ)) (files : FilesState) → ReadsOnce words files files
 reads_nothing words files = record {
   refused = λ _. refl;
+  quiet = λ _. refl;
   opens = λ o _. more files.opens (length o.files);
   reads = λ o _. more files.reads (most_reads o.command);
   bytes = λ o _. stays files.bytes (most_bytes o.command);
   no_strange = λ _ o _ _. refl;
 }
 
-pub reads_once_compile : SaysOneThing → (words : List (List ℕ)) (before after : FilesState) (name : List ℕ) (o : Options) → IsCompile words name o
+-- of a part, whether its program is asked for or its counts
+part_reads : (c : Command) → (c ≡ Compile) ⊎ (c ≡ Report) → most_reads c ≡ LONGEST + 2
+part_reads c (inl is) = ap most_reads is
+part_reads c (inr is) = ap most_reads is
+
+part_bytes : (c : Command) → (c ≡ Compile) ⊎ (c ≡ Report) → most_bytes c ≡ LONGEST + 1
+part_bytes c (inl is) = ap most_bytes is
+part_bytes c (inr is) = ap most_bytes is
+
+pub reads_once_file : SaysOneThing → (words : List (List ℕ)) (before after : FilesState) (name : List ℕ) (o : Options) → IsOfFile words name o
     → ReadsFile before after name (LONGEST + 1) → ReadsOnce words before after
-reads_once_compile law words before after name o command reads = record {
-  refused = λ not. absurd (not (inl (name, o, command)));
+reads_once_file law words before after name o command reads = record {
+  refused = λ not. absurd (not (o, command.accepted));
+  quiet = λ none. absurd (names_some law words name [] o command.accepted command.file none);
   opens = λ p asked. omega (arith, reads.opens, ap length (files_of o p (one_request law words o p command.accepted asked) ∙ command.file));
   reads = λ p asked.
-      subst (λ c. after.reads ≤ before.reads + most_reads c) (sym (command_of o p (one_request law words o p command.accepted asked) ∙ command.compiles))
+      subst (λ n. after.reads ≤ before.reads + n)
+      (sym (part_reads o.command command.plans) ∙ ap most_reads (sym (command_of o p (one_request law words o p command.accepted asked))))
       (omega (arith, reads.reads));
   bytes = λ p asked.
-      subst (λ c. after.bytes ≤ count_after before.bytes (most_bytes c)) (sym (command_of o p (one_request law words o p command.accepted asked) ∙ command.compiles))
+      subst (λ n. after.bytes ≤ count_after before.bytes n)
+      (sym (part_bytes o.command command.plans) ∙ ap most_bytes (sym (command_of o p (one_request law words o p command.accepted asked))))
       reads.bytes.within;
   no_strange = λ told p asked all.
       reads.no_strange told
@@ -157,7 +226,8 @@ reads_once_compile law words before after name o command reads = record {
 pub reads_once_verify : SaysOneThing → (words : List (List ℕ)) (before after : FilesState) (part name : List ℕ) (o : Options) → IsVerify words part name o
     → ReadsBoth before after part name → ReadsOnce words before after
 reads_once_verify law words before after part name o command reads = record {
-  refused = λ not. absurd (not (inr (part, name, o, command)));
+  refused = λ not. absurd (not (o, command.accepted));
+  quiet = λ none. absurd (names_some law words part (name ∷ []) o command.accepted command.file none);
   opens = λ p asked. omega (arith, reads.opens, ap length (files_of o p (one_request law words o p command.accepted asked) ∙ command.file));
   reads = λ p asked.
       subst (λ c. after.reads ≤ before.reads + most_reads c) (sym (command_of o p (one_request law words o p command.accepted asked) ∙ command.verifies))

@@ -1,5 +1,5 @@
 -- Why a part is refused, by what each of its readers tells.
-use Rattle.std.proofs.Common.{ℕ, ◌≡◌, ◌≢◌, ◌≤◌, ◌⊎◌, inl, inr, List, length, Result, Ok, Err, IfErr, MatchResult, refl, sym, subst}
+use Rattle.std.proofs.Common.{ℕ, ◌≡◌, ◌≢◌, ◌≤◌, ◌⊎◌, inl, inr, List, length, Result, Ok, Err, MatchResult, refl, sym}
 use Rattle.sn_p21.specs.Content.{Content}
 use Rattle.sn_p21.specs.FirstFault.{IsFirstFault}
 use Rattle.sn_p21.specs.declared.fault.P21Fault.{P21Fault}
@@ -12,23 +12,19 @@ use Rattle.sn_refs.specs.Sound.{IsRefFault}
 use Rattle.sn_refs.specs.declared.fault.RefFault.{RefFault}
 use Rattle.sn_refs.specs.declared.fault.RefFault.TheVariants as reference
 use Rattle.sn_outline.specs.Job.{Job}
-use Rattle.sn_geom.specs.declared.units.Cell.{Cell}
-use Rattle.sn_open.specs.Reach.{IsFirstUnreached}
 use Rattle.sn_words.specs.Options.{Options}
 use Rattle.sn_flow.specs.declared.fault.JobFault.{JobFault}
 use Rattle.sn_flow.specs.declared.fault.JobFault.TheVariants as job
 use Rattle.sn_flow.specs.JobOf.{job_of}
 use Rattle.sn_flow.specs.JobOfLaws.{NoOtherFault}
 use Rattle.stepmill.specs.declared.reading.TheConstants.{LONGEST}
-use Rattle.stepmill.specs.declared.refusal.Refusal.{Refusal}
-use Rattle.stepmill.specs.declared.refusal.Refusal.TheVariants as refused
-use Rattle.stepmill.specs.FaultText.{refusal_of, refusal_of_model, refusal_of_references, refusal_of_job}
-use Rattle.stepmill.specs.Part.{IsFileOf, HaveModel, HaveSoundModel, HaveJob, IsRefusedJob, IsRefusedPart, IsUncompiledPart}
+use Rattle.sn_message.specs.declared.refusal.Refusal.{Refusal}
+use Rattle.sn_message.specs.declared.refusal.Refusal.TheVariants as refused
+use Rattle.sn_message.specs.FaultText.{refusal_of, refusal_of_model, refusal_of_references, refusal_of_job}
+use Rattle.stepmill.specs.Found.{IsMemoryOr}
+use Rattle.stepmill.specs.Part.{IsFileOf, HaveModel, HaveSoundModel, IsRefusedJob, IsRefusedPart}
 
 -- Memory was wanting, or the refusal is one of the part, with these options or with any.
-
-abbrev pub IsMemoryOr : (Refusal → Type 0) → Refusal → Type 0
-IsMemoryOr Refused refusal = (refusal ≡ refused.NoMemory) ⊎ Refused refusal
 
 abbrev pub IsRefusedWithAny : List ℕ → Refusal → Type 0
 IsRefusedWithAny bytes refusal = (o : Options) → IsRefusedPart bytes o refusal

@@ -17,11 +17,11 @@ use Rattle.sn_flow.specs.declared.fault.JobFault.{JobFault}
 use Rattle.sn_flow.specs.declared.fault.JobFault.TheVariants.{GridTooBig, TooSmall}
 use Rattle.sn_flow.specs.JobOf.{job_of}
 use Rattle.stepmill.specs.declared.reading.TheConstants.{LONGEST}
-use Rattle.stepmill.specs.declared.refusal.Refusal.{Refusal}
-use Rattle.stepmill.specs.declared.refusal.Refusal.TheVariants as refused
-use Rattle.stepmill.specs.declared.refusal.TextFault.{TextFault}
-use Rattle.stepmill.specs.declared.refusal.TextFault.TheVariants.{Lex, Unexpected, Twice, TooDeep}
-use Rattle.stepmill.specs.FaultText.{p21_fault, refusal_of}
+use Rattle.sn_message.specs.declared.refusal.Refusal.{Refusal}
+use Rattle.sn_message.specs.declared.refusal.Refusal.TheVariants as refused
+use Rattle.sn_message.specs.declared.refusal.TextFault.{TextFault}
+use Rattle.sn_message.specs.declared.refusal.TextFault.TheVariants.{Lex, Unexpected, Twice, TooDeep}
+use Rattle.sn_message.specs.FaultText.{p21_fault, refusal_of}
 use Rattle.stepmill.specs.Part.{HasLongProgram, HasShortProgram, HaveJob, IsCompiledPart, IsRefusedJob, IsRefusedPart, IsSoundPart, IsUncompiledPart, SoundOrRefused}
 use Rattle.stepmill.proofs.ReachLawLemmas.{one_small, seen_or_small, one_unreached, reached_or_not}
 

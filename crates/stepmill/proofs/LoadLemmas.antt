@@ -10,13 +10,16 @@ use Rattle.sn_link.specs.declared.moves.Move.{Move}
 use Rattle.sn_link.specs.Plan.{IsPlan}
 use Rattle.sn_link.specs.PlanLaws.{OnePlan}
 use Rattle.sn_words.specs.Options.{Options}
-use Rattle.stepmill.specs.declared.refusal.Refusal.{Refusal}
-use Rattle.stepmill.specs.declared.refusal.Refusal.TheVariants as refused
+use Rattle.sn_message.specs.declared.refusal.Refusal.{Refusal}
+use Rattle.sn_message.specs.declared.refusal.Refusal.TheVariants as refused
 use Rattle.stepmill.specs.declared.reading.TheConstants.{LONGEST}
 use Rattle.stepmill.specs.Part.{HasShortProgram, IsCompiledPart, IsRefusedPart, IsSoundPart, IsUncompiledPart}
-use Rattle.stepmill.specs.Text.{program_text}
+use Rattle.sn_program.specs.Text.{program_text}
 use Rattle.stepmill.specs.Outcome.{HasRisenBy, IsRefusedFile, IsReadOf}
 use Rattle.stepmill.specs.Reading.{IsUnread}
+use Rattle.stepmill.specs.declared.compile.Planned.{Planned}
+use Rattle.stepmill.specs.Found.{IsMemoryOr, IsPlannedFor, LeavesUncompiled}
+use Rattle.sn_raster.specs.Grid.{FitsGrid}
 
 -- What was read, and the whole.
 
@@ -133,17 +136,32 @@ of_job before after name o job refused.NoMemory read why = tt
 of_job before after name o job refusal read why = λ told. why (before.given name 0) o (as_told before name (λ bytes. IsSoundPart bytes o job) told read)
 
 pub job_uncompiled : (before after : FilesState) (name : List ℕ) (o : Options) (job : Job) (refusal : Refusal) → IsReadOf before name (λ bytes. IsSoundPart bytes o job)
-    → (refusal ≡ refused.NoMemory) ⊎ ((bytes : List ℕ) (p : Options) → IsSoundPart bytes p job → IsUncompiledPart bytes p refusal)
-    → IsRefusedFile before after name (λ bytes. IsUncompiledPart bytes o) refusal
+    → IsMemoryOr (LeavesUncompiled job) refusal → IsRefusedFile before after name (λ bytes. IsUncompiledPart bytes o) refusal
 job_uncompiled before after name o job refusal read (inl e) = subst (IsRefusedFile before after name (λ bytes. IsUncompiledPart bytes o)) (sym e) tt
 job_uncompiled before after name o job refusal read (inr why) = of_job before after name o job refusal read why
 
+pub if_uncompiled : {A : Type 0} (before after : FilesState) (name : List ℕ) (o : Options) (job : Job) (r : Result A Refusal) → IsReadOf before name (λ bytes. IsSoundPart bytes o job)
+    → IfErr r (IsMemoryOr (LeavesUncompiled job)) → IfErr r (IsRefusedFile before after name (λ bytes. IsUncompiledPart bytes o))
+if_uncompiled before after name o job (Ok x) read why = tt
+if_uncompiled before after name o job (Err refusal) read why = job_uncompiled before after name o job refusal read why
+
+pub if_left : {A : Type 0} (bytes : List ℕ) (o : Options) (job : Job) (r : Result A Refusal) → IsSoundPart bytes o job
+    → IfErr r (IsMemoryOr (LeavesUncompiled job)) → IfErr r (IsMemoryOr (IsUncompiledPart bytes o))
+if_left bytes o job (Ok x) sound why = tt
+if_left bytes o job (Err refusal) sound (inl memory) = inl memory
+if_left bytes o job (Err refusal) sound (inr why) = inr (why bytes o sound)
+
+-- a part that is refused is left uncompiled
+refused_text : (bytes : List ℕ) (o : Options) (refusal : Refusal) → IsMemoryOr (IsRefusedPart bytes o) refusal → IsMemoryOr (IsUncompiledPart bytes o) refusal
+refused_text bytes o refusal (inl memory) = inl memory
+refused_text bytes o refusal (inr why) = inr (refused_too bytes o refusal why)
+
 -- the plan of the job has a program that is too long
-pub long_uncompiled : (before after : FilesState) (name : List ℕ) (o : Options) (job known : Job) (plan : List (StepJob × List Move)) → IsReadOf before name (λ bytes. IsSoundPart bytes o job)
-    → IsReachable job → known ≡ job → IsPlan known plan → LONGEST < length (program_text known plan) → IsRefusedFile before after name (λ bytes. IsUncompiledPart bytes o) refused.TooLong
-long_uncompiled before after name o job known plan read reachable same is long = λ told. inr (
+pub long_uncompiled : (job known : Job) (plan : List (StepJob × List Move)) → IsReachable job → known ≡ job → IsPlan known plan → LONGEST < length (program_text known plan)
+    → LeavesUncompiled job refused.TooLong
+long_uncompiled job known plan reachable same is long bytes o sound = inr (
   job,
-  as_told before name (λ bytes. IsSoundPart bytes o job) told read,
+  sound,
   reachable,
   (plan, subst (λ j. IsPlan j plan) same is, subst (λ j. LONGEST < length (program_text j plan)) same long),
 )
@@ -152,12 +170,39 @@ long_uncompiled before after name o job known plan read reachable same is long =
 short_program : OnePlan → (job : Job) (plan : List (StepJob × List Move)) → IsPlan job plan → ¬ (LONGEST < length (program_text job plan)) → HasShortProgram job
 short_program one job plan is short other again = subst (λ p. length (program_text job p) ≤ LONGEST) (one job plan other is again) (omega (arith, short))
 
-pub compiled_part : OnePlan → (files : FilesState) (name : List ℕ) (o : Options) (job known : Job) (plan : List (StepJob × List Move)) → IsReadOf files name (λ bytes. IsSoundPart bytes o job)
-    → IsReachable job → known ≡ job → IsPlan known plan → ¬ (LONGEST < length (program_text known plan)) → IsReadOf files name (λ bytes. IsCompiledPart bytes o known)
-compiled_part one files name o job known plan read reachable same is short =
-    read_as files name (λ bytes. IsSoundPart bytes o job) (λ bytes. IsCompiledPart bytes o known)
-    (λ bytes sound. record {
-      sound = subst (IsSoundPart bytes o) (sym same) sound;
-      reachable = subst IsReachable (sym same) reachable;
-      short = short_program one known plan is short;
-    }) read
+pub planned_for : OnePlan → (job : Job) (planned : Planned) (plan : List (StepJob × List Move)) → IsReachable job → planned.job ≡ job → IsPlan planned.job plan
+    → ¬ (LONGEST < length (program_text planned.job plan)) → IsPlannedFor job planned
+planned_for one job planned plan reachable same is short = record {
+  same = same;
+  reachable = reachable;
+  short = subst HasShortProgram same (short_program one planned.job plan is short);
+}
+
+compiled_part : (bytes : List ℕ) (o : Options) (job : Job) (planned : Planned) → IsSoundPart bytes o job → IsPlannedFor job planned → IsCompiledPart bytes o planned.job
+compiled_part bytes o job planned sound is = record {
+  sound = subst (IsSoundPart bytes o) (sym is.same) sound;
+  reachable = subst IsReachable (sym is.same) is.reachable;
+  short = subst HasShortProgram (sym is.same) is.short;
+}
+
+pub if_compiled : (files : FilesState) (name : List ℕ) (o : Options) (job : Job) (r : Result Planned Refusal) → IsReadOf files name (λ bytes. IsSoundPart bytes o job)
+    → IfOk r (IsPlannedFor job) → IfOk r (λ planned. IsReadOf files name (λ bytes. IsCompiledPart bytes o planned.job))
+if_compiled files name o job (Ok planned) read is =
+    read_as files name (λ bytes. IsSoundPart bytes o job) (λ bytes. IsCompiledPart bytes o planned.job) (λ bytes sound. compiled_part bytes o job planned sound is) read
+if_compiled files name o job (Err refusal) read is = tt
+
+pub if_compiled_text : (bytes : List ℕ) (o : Options) (job : Job) (r : Result Planned Refusal) → IsSoundPart bytes o job
+    → IfOk r (IsPlannedFor job) → IfOk r (λ planned. IsCompiledPart bytes o planned.job)
+if_compiled_text bytes o job (Ok planned) sound is = compiled_part bytes o job planned sound is
+if_compiled_text bytes o job (Err refusal) sound is = tt
+
+pub sound_fits : (bytes : List ℕ) (o : Options) (job : Job) → IsSoundPart bytes o job → FitsGrid job
+sound_fits bytes o job (m, have) = have.prepared.fits
+
+-- a text that is another one
+pub text_refused : (bytes text : List ℕ) (o : Options) (refusal : Refusal) → bytes ≡ text → IsMemoryOr (IsRefusedPart bytes o) refusal
+    → IsMemoryOr (IsUncompiledPart text o) refusal
+text_refused bytes text o refusal same why = subst (λ b. IsMemoryOr (IsUncompiledPart b o) refusal) same (refused_text bytes o refusal why)
+
+pub sound_text : (bytes text : List ℕ) (o : Options) (job : Job) → bytes ≡ text → IsSoundPart bytes o job → IsSoundPart text o job
+sound_text bytes text o job same sound = subst (λ b. IsSoundPart b o job) same sound

@@ -1,5 +1,5 @@
 -- Words and files have one outcome.
-use Rattle.std.proofs.Common.{ℕ, ◌≡◌, ◌≢◌, ◌⊎◌, inl, inr, ◌<◌, length, List, [], refl, sym, ap, subst, ◌∙◌}
+use Rattle.std.proofs.Common.{ℕ, ◌≡◌, ◌≢◌, ◌⊎◌, inl, inr, ◌<◌, length, List, refl, sym, ap, subst, ◌∙◌, arith}
 use Rattle.sn_io.specs.Files.{FilesState}
 use Rattle.sn_model.specs.Built.{OneModel}
 use Rattle.sn_open.specs.VerdictLaws.{ProgramsHaveOneVerdict}
@@ -12,23 +12,28 @@ use Rattle.sn_link.specs.Plan.{IsPlan}
 use Rattle.sn_link.specs.PlanLaws.{OnePlan}
 use Rattle.sn_outline.specs.Job.{Job}
 use Rattle.sn_words.proofs.Departures.{one_place}
+use Rattle.sn_words.specs.Command.{IsAccepted, DepartsAt}
 use Rattle.sn_words.specs.CommandLaws.{SaysOneThing}
+use Rattle.sn_report.specs.JobCounts.{AreCountsOf}
+use Rattle.sn_report.specs.JobCountsLaws.{OneCount}
+use Rattle.sn_report.specs.Report.{report_text}
 use Rattle.sn_words.specs.Options.{Options}
-use Rattle.stepmill.specs.declared.refusal.Refusal.{Refusal}
-use Rattle.stepmill.specs.declared.refusal.Refusal.TheVariants as refused
-use Rattle.stepmill.specs.declared.reading.TheConstants.{LONGEST, LONGEST_PROGRAM}
-use Rattle.stepmill.specs.declared.status.Status.{Status}
+use Rattle.sn_message.specs.declared.refusal.Refusal.{Refusal}
+use Rattle.sn_message.specs.declared.refusal.Refusal.TheVariants as refused
+use Rattle.stepmill.specs.declared.reading.TheConstants.{LONGEST_PROGRAM}
 use Rattle.stepmill.specs.declared.status.Status.TheVariants.{BadWords, Memory}
-use Rattle.stepmill.specs.Answer.{Answer, Planned, Judged, answer_status, answer_text}
-use Rattle.stepmill.specs.Command.{IsCarriedOut, IsTurnedAway}
+use Rattle.stepmill.specs.Answer.{Answer, Planned, Judged, Counted, Made, answer_status, answer_text, generated_text}
+use Rattle.sn_words.specs.declared.options.Command.TheVariants.{Compile, Verify, Make}
 use Rattle.stepmill.specs.Part.{IsCompiledPart, IsRefusedPart, IsSoundPart, IsUnjudged, SoundOrRefused}
-use Rattle.stepmill.specs.Outcome.{Explains, IsAnswer, IsRefusal, status_of, refusal_text}
+use Rattle.sn_message.specs.RefusalText.{refusal_text}
+use Rattle.stepmill.specs.Outcome.{Explains, IsAnswer, IsRefusal, status_of}
 use Rattle.stepmill.specs.Outcome.IsOutcome.{answered, turned_down}
 use Rattle.stepmill.specs.Outcome.IsRefusal.{turned_away, uncompiled, unjudged}
 use Rattle.stepmill.specs.OutcomeLaws.{OneCase, OneJob, OneRefusal, OneOutcome, OneVerdict, BadWordsAreNoCommand}
-use Rattle.stepmill.specs.Text.{program_text}
+use Rattle.sn_program.specs.Text.{program_text}
 use Rattle.stepmill.proofs.JudgedLemmas.{one_sound_job, one_uncompiled, one_refusal as one_part_refusal}
-use Rattle.stepmill.proofs.OutcomeLemmas.{one_request, one_part, one_pair, not_both, stays, of_one_part, of_one_pair, job_not_refused, case_not_refused}
+use Rattle.stepmill.proofs.CommandLemmas.{IsNumbered, answer_sort, asks_make, asks_verify, counts_sort, one_number, one_request, same_seed, sort_of}
+use Rattle.stepmill.proofs.OutcomeLemmas.{one_part, one_pair, part_accepted, part_or_case, stays, of_one_part, of_one_pair, job_not_refused, case_not_refused, make_not_refused}
 
 -- A command has one refusal.
 
@@ -57,21 +62,21 @@ one_unjudged file fault model check law bytes program o some other why again = e
 
 pub one_refusal : SaysOneThing → OneFile → OneFault → OneModel → OneCheck → SoundOrRefused → OneRefusal
 one_refusal one file fault model check law words given some other (turned_away j away is) (turned_away k again same) =
-    is ∙ ap refused.Word (one_place IsCarriedOut words j k away again) ∙ sym same
-one_refusal one file fault model check law words given some other (turned_away j away is) (uncompiled part o command why) =
-    absurd (stays words j (inl (part, o, command)) away)
+    is ∙ ap refused.Word (one_place IsAccepted words j k away again) ∙ sym same
+one_refusal one file fault model check law words given some other (turned_away j away is) (uncompiled bytes o part why) =
+    absurd (stays words j (o, part_accepted words given bytes o part) away)
 one_refusal one file fault model check law words given some other (turned_away j away is) (unjudged part program o command why) =
-    absurd (stays words j (inr (part, program, o, command)) away)
-one_refusal one file fault model check law words given some other (uncompiled part o command why) (turned_away k again same) =
-    absurd (stays words k (inl (part, o, command)) again)
-one_refusal one file fault model check law words given some other (uncompiled part o command why) (uncompiled name p again also) =
-    one_uncompiled file fault model check (given part 0) o some other why (of_one_part one words given part name o p other command again also)
-one_refusal one file fault model check law words given some other (uncompiled part o command why) (unjudged name program p again also) =
-    absurd (not_both one words part name program o p command again)
+    absurd (stays words j (o, command.accepted) away)
+one_refusal one file fault model check law words given some other (uncompiled bytes o part why) (turned_away k again same) =
+    absurd (stays words k (o, part_accepted words given bytes o part) again)
+one_refusal one file fault model check law words given some other (uncompiled bytes o part why) (uncompiled text p again also) =
+    one_uncompiled file fault model check bytes o some other why (of_one_part one words given bytes text o p other part again also)
+one_refusal one file fault model check law words given some other (uncompiled bytes o part why) (unjudged name program p again also) =
+    absurd (part_or_case one words given bytes name program o p part again)
 one_refusal one file fault model check law words given some other (unjudged part program o command why) (turned_away k again same) =
-    absurd (stays words k (inr (part, program, o, command)) again)
-one_refusal one file fault model check law words given some other (unjudged part program o command why) (uncompiled name p again also) =
-    absurd (not_both one words name part program p o again command)
+    absurd (stays words k (o, command.accepted) again)
+one_refusal one file fault model check law words given some other (unjudged part program o command why) (uncompiled bytes p again also) =
+    absurd (part_or_case one words given bytes part program p o again command)
 one_refusal one file fault model check law words given some other (unjudged part program o command why) (unjudged name another p again also) =
     one_unjudged file fault model check law (given part 0) (given program 1) o some other why
     (of_one_pair one words given part name program another o p other command again also)
@@ -83,11 +88,9 @@ compiled_is_sound bytes o job part = part.sound
 
 pub one_job : SaysOneThing → OneFile → OneFault → OneModel → OneCheck → OneJob
 one_job one file fault model check words given some other first second =
-    let name = one_part one words first.name second.name first.options second.options first.command second.command in
-    let options = one_request one words first.options second.options first.command.accepted second.command.accepted in
-    one_sound_job file fault model check (given first.name 0) first.options some other (compiled_is_sound _ _ _ first.part)
-    (subst (λ o. IsSoundPart (given first.name 0) o other) options
-    (subst (λ w. IsSoundPart (given w 0) second.options other) name (compiled_is_sound _ _ _ second.part)))
+    let same = one_part one words given first.bytes second.bytes first.options second.options first.part second.part in
+    one_sound_job file fault model check first.bytes first.options some other (compiled_is_sound _ _ _ first.compiled)
+    (subst (λ o. IsSoundPart first.bytes o other) same.1 (subst (λ b. IsSoundPart b second.options other) same.0 (compiled_is_sound _ _ _ second.compiled)))
 
 pub one_case : SaysOneThing → OneFile → OneFault → OneModel → OneCheck → OneCase
 one_case one file fault model check words given some other program another first second =
@@ -113,46 +116,91 @@ one_verdict case law words given some other program another verdict last (asked,
 
 -- A command has one outcome.
 
--- it asks for one answer
-one_answer : SaysOneThing → OnePlan → OneJob → OneVerdict → (words : List (List ℕ)) (given : List ℕ → ℕ → List ℕ) (answer other : Answer)
-    → IsAnswer words given answer → IsAnswer words given other → (answer_status answer ≡ answer_status other) × (answer_text answer ≡ answer_text other)
-one_answer says one job verdict words given (Planned j p) (Planned k q) (asked, planned) (asked', planned') =
+-- it asks for an answer of one sort
+sorted : (words : List (List ℕ)) (given : List ℕ → ℕ → List ℕ) (answer : Answer) → IsAnswer words given answer → IsNumbered sort_of words (answer_sort answer)
+sorted words given (Planned job plan) (asked, _, _) = (Compile, asked, refl)
+sorted words given (Judged job program verdict) (asked, _) = (Verify, asks_verify words asked.part_name asked.name asked.options asked.command, refl)
+sorted words given (Counted job counts) (asked, _, _) = counts_sort words asked
+sorted words given (Made seed) asked = (Make, asks_make words seed asked, refl)
+
+one_sort : SaysOneThing → (words : List (List ℕ)) (given : List ℕ → ℕ → List ℕ) (answer other : Answer) → IsAnswer words given answer → IsAnswer words given other
+    → answer_sort answer ≡ answer_sort other
+one_sort says words given answer other first second =
+    one_number says sort_of words (answer_sort answer) (answer_sort other) (sorted words given answer first) (sorted words given other second)
+
+abbrev AreAlike : Answer → Answer → Type 0
+AreAlike answer other = (answer_status answer ≡ answer_status other) × (answer_text answer ≡ answer_text other)
+
+apart : (n m : ℕ) → n ≡ m → n ≢ m → ⊥
+apart n m same other = other same
+
+-- and for one answer
+one_answer : SaysOneThing → OnePlan → OneCount → OneJob → OneVerdict → (words : List (List ℕ)) (given : List ℕ → ℕ → List ℕ) (answer other : Answer)
+    → IsAnswer words given answer → IsAnswer words given other → AreAlike answer other
+one_answer says one count job verdict words given (Planned j p) (Planned k q) (_, asked, planned) (_, asked', planned') =
     let same = job words given j k asked asked' in
     let plan = one k p q (subst (λ i. IsPlan i p) same planned) planned' in
     (refl, ap (λ i. program_text i p) same ∙ ap (program_text k) plan)
-one_answer says one job verdict words given (Planned j p) (Judged k t v) (asked, planned) (asked', is') =
-    absurd (not_both says words asked.name asked'.part_name asked'.name asked.options asked'.options asked.command asked'.command)
-one_answer says one job verdict words given (Judged j s v) (Planned k q) (asked, is) (asked', planned') =
-    absurd (not_both says words asked'.name asked.part_name asked.name asked'.options asked.options asked'.command asked.command)
-one_answer says one job verdict words given (Judged j s v) (Judged k t w) first second =
+one_answer says one count job verdict words given (Judged j s v) (Judged k t w) first second =
     let same = (verdict words given j k s t v w first second).2 in
     (ap (λ u. answer_status (Judged j s u)) same, ap (λ u. answer_text (Judged j s u)) same)
+one_answer says one count job verdict words given (Counted j c) (Counted k d) (_, asked, counted) (_, asked', counted') =
+    let same = job words given j k asked asked' in
+    (refl, ap report_text (count k c d (subst (λ i. AreCountsOf i c) same counted) counted'))
+one_answer says one count job verdict words given (Made m) (Made n) first second =
+    (refl, ap generated_text (same_seed says words m n first second))
+one_answer says one count job verdict words given (Planned j p) (Judged k t v) first second =
+    absurd (apart 0 1 (one_sort says words given (Planned j p) (Judged k t v) first second) (λ e. omega (arith, e)))
+one_answer says one count job verdict words given (Planned j p) (Counted k d) first second =
+    absurd (apart 0 2 (one_sort says words given (Planned j p) (Counted k d) first second) (λ e. omega (arith, e)))
+one_answer says one count job verdict words given (Planned j p) (Made n) first second =
+    absurd (apart 0 3 (one_sort says words given (Planned j p) (Made n) first second) (λ e. omega (arith, e)))
+one_answer says one count job verdict words given (Judged j s v) (Planned k q) first second =
+    absurd (apart 1 0 (one_sort says words given (Judged j s v) (Planned k q) first second) (λ e. omega (arith, e)))
+one_answer says one count job verdict words given (Judged j s v) (Counted k d) first second =
+    absurd (apart 1 2 (one_sort says words given (Judged j s v) (Counted k d) first second) (λ e. omega (arith, e)))
+one_answer says one count job verdict words given (Judged j s v) (Made n) first second =
+    absurd (apart 1 3 (one_sort says words given (Judged j s v) (Made n) first second) (λ e. omega (arith, e)))
+one_answer says one count job verdict words given (Counted j c) (Planned k q) first second =
+    absurd (apart 2 0 (one_sort says words given (Counted j c) (Planned k q) first second) (λ e. omega (arith, e)))
+one_answer says one count job verdict words given (Counted j c) (Judged k t v) first second =
+    absurd (apart 2 1 (one_sort says words given (Counted j c) (Judged k t v) first second) (λ e. omega (arith, e)))
+one_answer says one count job verdict words given (Counted j c) (Made n) first second =
+    absurd (apart 2 3 (one_sort says words given (Counted j c) (Made n) first second) (λ e. omega (arith, e)))
+one_answer says one count job verdict words given (Made m) (Planned k q) first second =
+    absurd (apart 3 0 (one_sort says words given (Made m) (Planned k q) first second) (λ e. omega (arith, e)))
+one_answer says one count job verdict words given (Made m) (Judged k t v) first second =
+    absurd (apart 3 1 (one_sort says words given (Made m) (Judged k t v) first second) (λ e. omega (arith, e)))
+one_answer says one count job verdict words given (Made m) (Counted k d) first second =
+    absurd (apart 3 2 (one_sort says words given (Made m) (Counted k d) first second) (λ e. omega (arith, e)))
 
 -- an answer is not refused
 pub answer_not_refused : SaysOneThing → SoundOrRefused → (words : List (List ℕ)) (given : List ℕ → ℕ → List ℕ) (answer : Answer) (refusal : Refusal)
     → IsAnswer words given answer → IsRefusal words given refusal → ⊥
-answer_not_refused says law words given (Planned job plan) refusal (asked, planned) why = job_not_refused says law words given job refusal asked why
-answer_not_refused says law words given (Judged job program verdict) refusal (asked, is) why =
+answer_not_refused says law words given (Planned job plan) refusal (_, asked, _) why = job_not_refused says law words given job refusal asked why
+answer_not_refused says law words given (Judged job program verdict) refusal (asked, _) why =
     case_not_refused says law words given job program refusal asked why
+answer_not_refused says law words given (Counted job counts) refusal (_, asked, _) why = job_not_refused says law words given job refusal asked why
+answer_not_refused says law words given (Made seed) refusal asked why = make_not_refused says words given seed refusal asked why
 
-pub one_outcome : SaysOneThing → SoundOrRefused → OnePlan → OneJob → OneVerdict → OneRefusal → OneOutcome
-one_outcome says law one job verdict one_r words given s t text other message told (answered a asked status is none) (answered b asked' status' is' none') =
-    let (same, alike) = one_answer says one job verdict words given a b asked asked' in
+pub one_outcome : SaysOneThing → SoundOrRefused → OnePlan → OneCount → OneJob → OneVerdict → OneRefusal → OneOutcome
+one_outcome says law one count job verdict one_r words given s t text other message told (answered a asked status is none) (answered b asked' status' is' none') =
+    let (same, alike) = one_answer says one count job verdict words given a b asked asked' in
     (status ∙ same ∙ sym status', is ∙ alike ∙ sym is', none ∙ sym none')
-one_outcome says law one job verdict one_r words given s t text other message told (answered a asked status is none) (turned_down r why status' empty tells) =
+one_outcome says law one count job verdict one_r words given s t text other message told (answered a asked status is none) (turned_down r why status' empty tells) =
     absurd (answer_not_refused says law words given a r asked why)
-one_outcome says law one job verdict one_r words given s t text other message told (turned_down r why status empty tells) (answered a asked status' is none) =
+one_outcome says law one count job verdict one_r words given s t text other message told (turned_down r why status empty tells) (answered a asked status' is none) =
     absurd (answer_not_refused says law words given a r asked why)
-one_outcome says law one job verdict one_r words given s t text other message told (turned_down r why status empty tells) (turned_down q why' status' empty' tells') =
+one_outcome says law one count job verdict one_r words given s t text other message told (turned_down r why status empty tells) (turned_down q why' status' empty' tells') =
     let same = one_r words given r q why why' in
     (status ∙ ap status_of same ∙ sym status', empty ∙ sym empty', tells ∙ ap refusal_text same ∙ sym tells')
 
--- BadWords is of words that are not carried out.
+-- BadWords is of words that are not accepted.
 
--- words are turned away, or are carried out and the status is another one, or memory was wanting
+-- words depart from the grammar, or are accepted and the status is another one, or memory was wanting
 word_or_other : (words : List (List ℕ)) (before after : FilesState) (refusal : Refusal) → Explains words before after refusal
-    → ((place : ℕ) × (status_of refusal ≡ BadWords) × IsTurnedAway words place)
-    ⊎ ((status_of refusal ≢ BadWords) × (IsCarriedOut words ⊎ (status_of refusal ≡ Memory)))
+    → ((place : ℕ) × (status_of refusal ≡ BadWords) × DepartsAt words place)
+    ⊎ ((status_of refusal ≢ BadWords) × (IsAccepted words ⊎ (status_of refusal ≡ Memory)))
 word_or_other words before after (refused.Word place) why = inl (place, refl, why.0)
 word_or_other words before after refused.NoMemory why = inr ((λ e. cc), inr refl)
 word_or_other words before after refusal why = inr ((λ e. cc), inl why.0)

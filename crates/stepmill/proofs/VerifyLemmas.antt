@@ -1,20 +1,20 @@
 -- A verdict on a program for a part, why there is none, and what is read for it.
-use Rattle.std.proofs.Common.{ℕ, ◌≡◌, ◌+◌, ◌≤◌, ◌<◌, ◌⊎◌, inl, inr, List, [], length, Result, Ok, Err, IfOk, IfErr, IsTrue, refl, sym, ap, subst, ◌∙◌, arith}
-use Rattle.sn_io.specs.Count.{count_after, Rises}
+use Rattle.std.proofs.Common.{ℕ, ◌≡◌, ◌+◌, ◌≤◌, ◌<◌, inl, inr, List, length, Result, Ok, Err, IfOk, IfErr, refl, subst, ◌∙◌, arith}
+use Rattle.sn_io.specs.Count.{count_after}
 use Rattle.sn_io.specs.Files.{FilesState}
 use Rattle.sn_open.specs.Verdict.{IsVerdict}
 use Rattle.sn_open.specs.declared.verdict.Verdict.{Verdict}
 use Rattle.sn_outline.specs.Job.{Job}
 use Rattle.sn_outline.specs.JobRule.{IsJob}
 use Rattle.sn_words.specs.Options.{Options}
-use Rattle.stepmill.specs.declared.refusal.Refusal.{Refusal}
-use Rattle.stepmill.specs.declared.refusal.Refusal.TheVariants as refused
+use Rattle.sn_message.specs.declared.refusal.Refusal.{Refusal}
+use Rattle.sn_message.specs.declared.refusal.Refusal.TheVariants as refused
 use Rattle.stepmill.specs.declared.reading.TheConstants.{LONGEST, LONGEST_PROGRAM}
 use Rattle.stepmill.specs.Found.{IsVerdictOf, IsRefusedCase, ReadsBoth}
-use Rattle.stepmill.specs.Outcome.{HasRisenBy, IsLongRead, IsReadOf, IsRefusedFile}
+use Rattle.stepmill.specs.Outcome.{HasRisenBy, IsReadOf, IsRefusedFile}
 use Rattle.stepmill.specs.Part.{IsRefusedPart, IsSoundPart}
 use Rattle.stepmill.specs.Reading.{IsPastOne, IsUnreadProgram, ReadsFile}
-use Rattle.stepmill.proofs.LoadLemmas.{as_told, read_as}
+use Rattle.stepmill.proofs.LoadLemmas.{as_told}
 use Rattle.stepmill.proofs.ReadingLemmas.{rises_later}
 
 -- the program is short, and this is the verdict on it

@@ -1,14 +1,30 @@
--- MEANING: the commands that are carried out today (this project's own).
+-- MEANING: what words ask for (this project's own).
 use Rattle.std.specs.Prelude.{◌≡◌, ◌⊎◌, ℕ, List, [], ◌∷◌}
-use Rattle.sn_words.specs.Command.{IsCommand, Departs}
+use Rattle.sn_words.specs.Command.{IsCommand}
 use Rattle.sn_words.specs.Options.{Options}
-use Rattle.sn_words.specs.declared.options.Command.TheVariants.{Compile, Verify}
+use Rattle.sn_words.specs.declared.options.Command.{Command}
+use Rattle.sn_words.specs.declared.options.Command.TheVariants.{Compile, Verify, Report, Make, Trial}
 
--- the words ask for the program of a part, with these options
-pub record IsCompile (words : List (List ℕ)) (part : List ℕ) (o : Options) : Type 0 where
+-- the words are accepted, and ask for what this command gives
+pub record AsksFor (words : List (List ℕ)) (command : Command) : Type 0 where
+  pub options : Options
+  pub accepted : IsCommand words options
+  pub asks : options.command ≡ command
+
+-- the words ask for the counts of a part: of that of a file, or of the one that is generated from a seed
+abbrev pub AsksForCounts : List (List ℕ) → Type 0
+AsksForCounts words = AsksFor words Report ⊎ AsksFor words Trial
+
+-- the words ask for the program or for the counts of the part of a file, with these options
+pub record IsOfFile (words : List (List ℕ)) (part : List ℕ) (o : Options) : Type 0 where
   pub accepted : IsCommand words o
-  pub compiles : o.command ≡ Compile
+  pub plans : (o.command ≡ Compile) ⊎ (o.command ≡ Report)
   pub file : o.files ≡ part ∷ []
+
+-- the words ask for the counts of the part that is generated from the seed of these options
+pub record IsOfSeed (words : List (List ℕ)) (o : Options) : Type 0 where
+  pub accepted : IsCommand words o
+  pub tries : o.command ≡ Trial
 
 -- the words ask for the verdict on a program for a part, with these options
 pub record IsVerify (words : List (List ℕ)) (part program : List ℕ) (o : Options) : Type 0 where
@@ -16,13 +32,15 @@ pub record IsVerify (words : List (List ℕ)) (part program : List ℕ) (o : Opt
   pub verifies : o.command ≡ Verify
   pub file : o.files ≡ part ∷ program ∷ []
 
--- the words ask for what is carried out: today programs are written and verified, and nothing is reported or generated
-abbrev pub IsCarriedOut : List (List ℕ) → Type 0
-IsCarriedOut words =
-    ((part : List ℕ) × (o : Options) × IsCompile words part o)
-    ⊎ ((part : List ℕ) × (program : List ℕ) × (o : Options) × IsVerify words part program o)
+-- the words ask for the part that is generated from this seed
+pub record IsMake (words : List (List ℕ)) (seed : ℕ) : Type 0 where
+  pub options : Options
+  pub accepted : IsCommand words options
+  pub makes : options.command ≡ Make
+  pub seed_is : options.seed ≡ seed
 
--- the words ask for nothing that is carried out, and the word at the place, counted from 1, is the first after which none
--- can follow
-abbrev pub IsTurnedAway : List (List ℕ) → ℕ → Type 0
-IsTurnedAway words place = Departs IsCarriedOut words place
+-- the words are accepted and name no file
+pub record NamesNoFile (words : List (List ℕ)) : Type 0 where
+  pub options : Options
+  pub accepted : IsCommand words options
+  pub none : options.files ≡ []

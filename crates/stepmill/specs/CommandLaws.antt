@@ -1,26 +1,21 @@
--- MEANING: laws of the commands that are carried out.
-use Rattle.std.specs.Prelude.{◌≡◌, ◌≢◌, ◌↔◌, ◌∷◌, ℕ, List, codes}
-use Rattle.sn_words.specs.Command.{IsAccepted, DepartsAt}
-use Rattle.stepmill.specs.Command.{IsCarriedOut, IsTurnedAway}
+-- MEANING: laws of what words ask for.
+use Rattle.std.specs.Prelude.{◌≡◌, ◌⊎◌, ℕ, List, [], None}
+use Rattle.sn_words.specs.Command.{IsCommand}
+use Rattle.sn_words.specs.Options.{Options}
+use Rattle.sn_words.specs.declared.options.Command.{Command}
+use Rattle.stepmill.specs.Command.{AsksFor, IsMake, IsOfFile, IsOfSeed, IsVerify, NamesNoFile}
 
--- words behind compile are carried out where the grammar accepts them, and are turned away where they depart from it
-abbrev pub CompileGoesByTheGrammar : Type 0
-CompileGoesByTheGrammar =
-    (later : List (List ℕ)) (place : ℕ)
-    → (IsCarriedOut (codes "compile" ∷ later) ↔ IsAccepted (codes "compile" ∷ later))
-    × (DepartsAt (codes "compile" ∷ later) place → IsTurnedAway (codes "compile" ∷ later) place)
+-- accepted words ask for one thing: the plan of the part of a file, the plan of a part that is generated, a verdict, or a part
+abbrev pub AcceptedWordsAsk : Type 0
+AcceptedWordsAsk =
+    (words : List (List ℕ)) (o : Options) → IsCommand words o
+    → ((part : List ℕ) × IsOfFile words part o) ⊎ (IsOfSeed words o ⊎ (((part : List ℕ) × (program : List ℕ) × IsVerify words part program o) ⊎ IsMake words o.seed))
 
--- and so it is behind verify
-abbrev pub VerifyGoesByTheGrammar : Type 0
-VerifyGoesByTheGrammar =
-    (later : List (List ℕ)) (place : ℕ)
-    → (IsCarriedOut (codes "verify" ∷ later) ↔ IsAccepted (codes "verify" ∷ later))
-    × (DepartsAt (codes "verify" ∷ later) place → IsTurnedAway (codes "verify" ∷ later) place)
+-- words ask for what one command gives
+abbrev pub OneCommand : Type 0
+OneCommand = (words : List (List ℕ)) (some other : Command) → AsksFor words some → AsksFor words other → some ≡ other
 
--- every other first word is turned away, whatever follows
-abbrev pub OthersAreTurnedAway : Type 0
-OthersAreTurnedAway = (word : List ℕ) (later : List (List ℕ)) → word ≢ codes "compile" → word ≢ codes "verify" → IsTurnedAway (word ∷ later) 1
-
--- words are turned away at one place
-abbrev pub OnePlace : Type 0
-OnePlace = (words : List (List ℕ)) (j k : ℕ) → IsTurnedAway words j → IsTurnedAway words k → j ≡ k
+-- a part that is generated is counted at a pitch of a quarter of a millimetre, with no raw box and no values that are given, and
+-- no file is named for it
+abbrev pub TrialsHaveNoOptions : Type 0
+TrialsHaveNoOptions = (words : List (List ℕ)) (o : Options) → IsOfSeed words o → (o.pitch ≡ 250) × (o.raw ≡ None) × (o.sets ≡ []) × NamesNoFile words

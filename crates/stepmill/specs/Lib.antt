@@ -1,17 +1,9 @@
 pub mod Answer
-pub mod CellText
 pub mod Command
 pub mod CommandLaws
 pub mod Exit
-pub mod FaultText
 pub mod Found
-pub mod GoodLaws
-pub mod LineLaws
 pub mod Outcome
 pub mod OutcomeLaws
 pub mod Part
-pub mod PlanActs
 pub mod Reading
-pub mod Text
-pub mod TextLaws
-pub mod VerdictText

@@ -1,5 +1,5 @@
 -- MEANING: what a command ends with, a status and the texts for the output and for the errors (this project's own).
-use Rattle.std.specs.Prelude.{◌≡◌, ℕ, ◌+◌, ◌≤◌, ◌<◌, ◌⊎◌, min, List, [], ◌++◌, length, codes, decimal, IsTrue}
+use Rattle.std.specs.Prelude.{◌≡◌, ℕ, ◌+◌, ◌≤◌, ◌<◌, ◌⊎◌, min, List, [], length, codes, IsTrue}
 use Rattle.std.specs.List.{All}
 use Rattle.sn_io.specs.Count.{count_after, last_count, Rises}
 use Rattle.sn_io.specs.Files.{FilesState}
@@ -7,39 +7,30 @@ use Rattle.sn_io.specs.Sink.{SinkState, Takes, TakesFront}
 use Rattle.sn_outline.specs.Job.{Job}
 use Rattle.sn_outline.specs.JobRule.{IsJob}
 use Rattle.sn_outline.specs.declared.job.StepJob.{StepJob}
-use Rattle.sn_words.specs.Command.{IsCommand}
+use Rattle.sn_words.specs.Command.{IsAccepted, IsCommand, DepartsAt}
 use Rattle.sn_words.specs.Options.{Options}
 use Rattle.sn_words.specs.declared.options.Command.{Command}
-use Rattle.sn_words.specs.declared.options.Command.TheVariants.{Compile, Verify}
+use Rattle.sn_words.specs.declared.options.Command.TheVariants.{Compile, Verify, Report}
 use Rattle.stepmill.specs.declared.status.Status.{Status}
-use Rattle.stepmill.specs.declared.status.Status.TheVariants.{Done, PartRefused, BadWords, ReadFault, WriteFault, Memory, Uncovered, TooLong}
-use Rattle.stepmill.specs.declared.refusal.Refusal.{Refusal}
-use Rattle.stepmill.specs.declared.refusal.Refusal.TheVariants as refused
+use Rattle.stepmill.specs.declared.status.Status.TheVariants.{PartRefused, BadWords, ReadFault, WriteFault, Memory, Uncovered, TooLong}
+use Rattle.sn_message.specs.declared.refusal.Refusal.{Refusal}
+use Rattle.sn_message.specs.declared.refusal.Refusal.TheVariants as refused
 use Rattle.stepmill.specs.declared.reading.TheConstants.{LONGEST, LONGEST_PROGRAM}
-use Rattle.stepmill.specs.Answer.{Answer, Planned, Judged, answer_status, answer_text}
+use Rattle.sn_report.specs.JobCounts.{AreCountsOf}
+use Rattle.sn_report.specs.Report.{report_text}
+use Rattle.sn_report.specs.declared.counts.Counts.{Counts}
+use Rattle.stepmill.specs.Answer.{Answer, Planned, Judged, Counted, Made, answer_status, answer_text, generated_text}
 use Rattle.stepmill.specs.Part.{IsCompiledPart, IsSoundPart, IsUncompiledPart, IsUnjudged}
-use Rattle.stepmill.specs.Command.{IsCarriedOut, IsCompile, IsTurnedAway, IsVerify}
-use Rattle.stepmill.specs.FaultText.{placed_text, fault_text, memory_text, model_text, reference_text, job_text, uncovered_text}
+use Rattle.stepmill.specs.Command.{AsksFor, AsksForCounts, IsMake, IsOfFile, IsOfSeed, IsVerify, NamesNoFile}
+use Rattle.sn_message.specs.RefusalText.{refusal_text}
 use Rattle.sn_open.specs.Good.{Good}
 use Rattle.sn_open.specs.Verdict.{IsVerdict}
 use Rattle.sn_open.specs.declared.verdict.Verdict.{Verdict}
 use Rattle.sn_open.specs.declared.verdict.Verdict.TheVariants.{Yes}
 use Rattle.sn_link.specs.declared.moves.Move.{Move}
 use Rattle.sn_link.specs.Plan.{IsPlan}
-use Rattle.stepmill.specs.Text.{program_text}
-use Rattle.stepmill.specs.VerdictText.{verdict_text}
-
--- the text of a refusal
-abbrev pub refusal_text : Refusal → List ℕ
-refusal_text (refused.Word place) = placed_text (codes "stepmill: word ") place
-refusal_text (refused.Text fault) = fault_text fault
-refusal_text refused.NotRead = codes "stepmill: read fault\n"
-refusal_text refused.NoMemory = memory_text
-refusal_text refused.TooLong = codes "stepmill: too long\n"
-refusal_text (refused.Model fault) = model_text fault
-refusal_text (refused.Reference fault) = reference_text fault
-refusal_text (refused.Job fault) = job_text fault
-refusal_text (refused.Uncovered feature cell) = uncovered_text feature cell
+use Rattle.sn_program.specs.Text.{program_text}
+use Rattle.sn_message.specs.VerdictText.{verdict_text}
 
 -- the status of a refusal whose text was written
 abbrev pub status_of : Refusal → Status
@@ -56,19 +47,25 @@ status_of (refused.Uncovered feature cell) = Uncovered
 -- Answers and refusals, memory and devices apart. The files give bytes for each opening of a name, counted from 0: a part is
 -- the first opening of its name, and a program the second of all.
 
--- what the words ask for is refused: they are turned away, or no program is written for the part, or no verdict is given
+-- the words ask for the program or for the counts of the part with these bytes: of that of a file, or of one that is generated
+pub data IsPartOf (words : List (List ℕ)) (given : List ℕ → ℕ → List ℕ) (bytes : List ℕ) (o : Options) : Type 0 where
+  of_file : (name : List ℕ) → IsOfFile words name o → bytes ≡ given name 0 → IsPartOf words given bytes o
+  of_seed : IsOfSeed words o → bytes ≡ generated_text o.seed → IsPartOf words given bytes o
+
+-- what the words ask for is refused: they depart from the grammar, no program is written for the part and so it is not counted,
+-- or no verdict is given
 pub data IsRefusal (words : List (List ℕ)) (given : List ℕ → ℕ → List ℕ) (refusal : Refusal) : Type 0 where
-  turned_away : (place : ℕ) → IsTurnedAway words place → refusal ≡ refused.Word place → IsRefusal words given refusal
-  uncompiled : (part : List ℕ) (o : Options) → IsCompile words part o → IsUncompiledPart (given part 0) o refusal → IsRefusal words given refusal
+  turned_away : (place : ℕ) → DepartsAt words place → refusal ≡ refused.Word place → IsRefusal words given refusal
+  uncompiled : (bytes : List ℕ) (o : Options) → IsPartOf words given bytes o → IsUncompiledPart bytes o refusal → IsRefusal words given refusal
   unjudged : (part program : List ℕ) (o : Options) → IsVerify words part program o → IsUnjudged (given part 0) (given program 1) o refusal
       → IsRefusal words given refusal
 
--- the words ask for the program of a part that is compiled, and this is its job
+-- the words ask for the program or for the counts of a part that is compiled, and this is its job
 pub record IsJobOf (words : List (List ℕ)) (given : List ℕ → ℕ → List ℕ) (job : Job) : Type 0 where
-  pub name : List ℕ
+  pub bytes : List ℕ
   pub options : Options
-  pub command : IsCompile words name options
-  pub part : IsCompiledPart (given name 0) options job
+  pub part : IsPartOf words given bytes options
+  pub compiled : IsCompiledPart bytes options job
 
 -- the words ask for the verdict on a program for a sound part, which is not too long; these are the job and the program
 pub record IsCaseOf (words : List (List ℕ)) (given : List ℕ → ℕ → List ℕ) (job : Job) (program : List ℕ) : Type 0 where
@@ -82,8 +79,10 @@ pub record IsCaseOf (words : List (List ℕ)) (given : List ℕ → ℕ → List
 
 -- what the words ask for
 abbrev pub IsAnswer : List (List ℕ) → (List ℕ → ℕ → List ℕ) → Answer → Type 0
-IsAnswer words given (Planned job plan) = IsJobOf words given job × IsPlan job plan
+IsAnswer words given (Planned job plan) = AsksFor words Compile × IsJobOf words given job × IsPlan job plan
 IsAnswer words given (Judged job program verdict) = IsCaseOf words given job program × IsVerdict job program verdict
+IsAnswer words given (Counted job counts) = AsksForCounts words × IsJobOf words given job × AreCountsOf job counts
+IsAnswer words given (Made seed) = IsMake words seed
 
 -- The status, the text for the output and the text for the errors: those of the answer and no message, or no text and the
 -- message of a refusal.
@@ -107,22 +106,39 @@ pub record Ends (words : List (List ℕ)) (given : List ℕ → ℕ → List ℕ
 
 -- What was done, whether the files tell their content or not.
 
+-- what the words ask for is known: the files tell their content, or the words name none
+abbrev pub IsKnown : List (List ℕ) → FilesState → Type 0
+IsKnown words files = IsTrue files.tells ⊎ NamesNoFile words
+
 -- bytes were read of a name, and this is so of them: they are those that the files told, where they tell any
 pub record IsReadOf (files : FilesState) (name : List ℕ) (P : List ℕ → Type 0) : Type 0 where
   pub bytes : List ℕ
   pub content : IsTrue files.tells → bytes ≡ files.given name 0
   pub holds : P bytes
 
--- The words ask for the program of a part; one that is compiled was read of the name in them, these are its job, that keeps
--- the rule of jobs, and its plan, and the program of that plan is good for the job.
-pub record IsPrepared (words : List (List ℕ)) (files : FilesState) (job : Job) (plan : List (StepJob × List Move)) : Type 0 where
-  pub name : List ℕ
+-- the words ask for the program or for the counts of a part, and this is so of its bytes: they were read of a file, or generated
+pub data IsPartWith (words : List (List ℕ)) (files : FilesState) (o : Options) (P : List ℕ → Type 0) : Type 0 where
+  of_file_read : (name : List ℕ) → IsOfFile words name o → IsReadOf files name P → IsPartWith words files o P
+  of_seed_made : IsOfSeed words o → P (generated_text o.seed) → IsPartWith words files o P
+
+-- The words ask for the program or for the counts of a part; it is compiled, and this is its job, that keeps the rule of jobs.
+pub record IsLoaded (words : List (List ℕ)) (files : FilesState) (job : Job) : Type 0 where
   pub options : Options
-  pub command : IsCompile words name options
-  pub read : IsReadOf files name (λ bytes. IsCompiledPart bytes options job)
+  pub part : IsPartWith words files options (λ bytes. IsCompiledPart bytes options job)
   pub rule : IsJob job
+
+-- The words ask for the program of a part with this job; this is its plan, and the program of that plan is good for the job.
+pub record IsPrepared (words : List (List ℕ)) (files : FilesState) (job : Job) (plan : List (StepJob × List Move)) : Type 0 where
+  pub asked : AsksFor words Compile
+  pub loaded : IsLoaded words files job
   pub planned : IsPlan job plan
   pub good : Good job (program_text job plan)
+
+-- The words ask for the counts of a part with this job, and these are its counts.
+pub record IsReported (words : List (List ℕ)) (files : FilesState) (job : Job) (counts : Counts) : Type 0 where
+  pub asked : AsksForCounts words
+  pub loaded : IsLoaded words files job
+  pub counted : AreCountsOf job counts
 
 -- The words ask for the verdict on a program for a part; a sound part was read of the first name in them, this is its job,
 -- that keeps the rule of jobs, the program was read of the second name, to its end, and this is the verdict on it.
@@ -141,6 +157,8 @@ pub record IsJudged (words : List (List ℕ)) (files : FilesState) (job : Job) (
 abbrev pub IsFound : List (List ℕ) → FilesState → Answer → Type 0
 IsFound words files (Planned job plan) = IsPrepared words files job plan
 IsFound words files (Judged job program verdict) = IsJudged words files job program verdict
+IsFound words files (Counted job counts) = IsReported words files job counts
+IsFound words files (Made seed) = IsMake words seed
 
 -- The words were carried out: the answer was found and gives the status, the output took its text, and the errors are
 -- untouched.
@@ -175,6 +193,13 @@ pub record Rejects (words : List (List ℕ)) (files : FilesState) (out out_after
   pub bad : ¬ Good job program
   pub written : Takes out out_after (verdict_text verdict)
 
+-- The output took the counts of the part's job.
+pub record Reports (words : List (List ℕ)) (files : FilesState) (out out_after : SinkState) : Type 0 where
+  pub job : Job
+  pub counts : Counts
+  pub reported : IsReported words files job counts
+  pub written : Takes out out_after (report_text counts)
+
 -- why the file of a part was refused, with the files before and after: so is it for each command
 abbrev pub IsRefusedFile : FilesState → FilesState → List ℕ → (List ℕ → Refusal → Type 0) → Refusal → Type 0
 IsRefusedFile before after name P (refused.Word place) = ⊥
@@ -191,16 +216,17 @@ pub record IsLongRead (before after : FilesState) : Type 0 where
   pub part : HasRisenBy before.bytes after.bytes (LONGEST + 1)
   pub program : before.opens + 1 < after.opens → HasRisenBy before.bytes after.bytes (LONGEST_PROGRAM + 1)
 
--- Why a command was refused, with the files before and after: words that are turned away leave the files as they were, and
--- so does memory that is wanting for the words; all other refusals are of words that are carried out.
+-- Why a command was refused, with the files before and after: words that depart from the grammar leave the files as they were,
+-- and so does memory that is wanting for the words; all other refusals are of words that are accepted, and a call can fail only
+-- where they name a file.
 abbrev pub Explains : List (List ℕ) → FilesState → FilesState → Refusal → Type 0
-Explains words before after (refused.Word place) = IsTurnedAway words place × (after ≡ before)
-Explains words before after refused.NotRead = IsCarriedOut words × Rises before.faults after.faults
-Explains words before after refused.NoMemory = (IsCarriedOut words × (after.opens ≤ before.opens + 1)) ⊎ (after ≡ before)
+Explains words before after (refused.Word place) = DepartsAt words place × (after ≡ before)
+Explains words before after refused.NotRead = IsAccepted words × (¬ NamesNoFile words) × Rises before.faults after.faults
+Explains words before after refused.NoMemory = (IsAccepted words × (after.opens ≤ before.opens + 1)) ⊎ (after ≡ before)
 Explains words before after refused.TooLong =
-    IsCarriedOut words × ((part program : List ℕ) (o : Options) → IsVerify words part program o → IsLongRead before after)
-    × (IsTrue before.tells → IsRefusal words before.given refused.TooLong)
-Explains words before after refusal = IsCarriedOut words × (IsTrue before.tells → IsRefusal words before.given refusal)
+    IsAccepted words × ((part program : List ℕ) (o : Options) → IsVerify words part program o → IsLongRead before after)
+    × (IsKnown words before → IsRefusal words before.given refused.TooLong)
+Explains words before after refusal = IsAccepted words × (IsKnown words before → IsRefusal words before.given refusal)
 
 -- The words were refused: the refusal has its cause and gives the status, the errors took its text, and the output is
 -- untouched.
@@ -214,19 +240,22 @@ pub record Refuses (words : List (List ℕ)) (before after : FilesState) (status
 -- how many bytes are taken at the most: of a part, and where one is verified of a program too, one more than the limit
 abbrev pub most_bytes : Command → ℕ
 most_bytes Compile = LONGEST + 1
+most_bytes Report = LONGEST + 1
 most_bytes Verify = LONGEST + 1 + (LONGEST_PROGRAM + 1)
 most_bytes command = 0
 
 -- and how often is read: each reading but the last takes a byte
 abbrev pub most_reads : Command → ℕ
 most_reads Compile = LONGEST + 2
+most_reads Report = LONGEST + 2
 most_reads Verify = LONGEST + 2 + (LONGEST_PROGRAM + 2)
 most_reads command = 0
 
--- What a command does to the files: words that are not carried out leave them as they are; each file is opened once at the
--- most, and read to its end or until one byte more than its limit was taken.
+-- What a command does to the files: words that are not accepted, or that name no file, leave them as they are; each file is opened
+-- once at the most, and read to its end or until one byte more than its limit was taken.
 pub record ReadsOnce (words : List (List ℕ)) (before after : FilesState) : Type 0 where
-  pub refused : ¬ IsCarriedOut words → after ≡ before
+  pub refused : ¬ IsAccepted words → after ≡ before
+  pub quiet : NamesNoFile words → after ≡ before
   pub opens : (o : Options) → IsCommand words o → after.opens ≤ before.opens + length o.files
   pub reads : (o : Options) → IsCommand words o → after.reads ≤ before.reads + most_reads o.command
   pub bytes : (o : Options) → IsCommand words o → after.bytes ≤ count_after before.bytes (most_bytes o.command)

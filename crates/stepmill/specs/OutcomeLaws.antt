@@ -5,8 +5,8 @@ use Rattle.sn_io.specs.Sink.{SinkState}
 use Rattle.sn_outline.specs.Job.{Job}
 use Rattle.stepmill.specs.declared.status.Status.{Status}
 use Rattle.stepmill.specs.declared.status.Status.TheVariants.{BadWords, Memory}
-use Rattle.stepmill.specs.declared.refusal.Refusal.{Refusal}
-use Rattle.stepmill.specs.Command.{IsCarriedOut}
+use Rattle.sn_message.specs.declared.refusal.Refusal.{Refusal}
+use Rattle.sn_words.specs.Command.{IsAccepted}
 use Rattle.sn_open.specs.declared.verdict.Verdict.{Verdict}
 use Rattle.stepmill.specs.Answer.{Judged}
 use Rattle.stepmill.specs.Outcome.{IsAnswer, IsCaseOf, IsJobOf, IsOutcome, IsRefusal, Refuses}
@@ -39,9 +39,9 @@ OneOutcome =
     → IsOutcome words given status text message → IsOutcome words given other_status other_text other_message
     → (status ≡ other_status) × (text ≡ other_text) × (message ≡ other_message)
 
--- a command that was refused ended with BadWords exactly where its words are not carried out, memory apart
+-- a command that was refused ended with BadWords exactly where its words are not accepted, memory apart
 abbrev pub BadWordsAreNoCommand : Type 0
 BadWordsAreNoCommand =
     (words : List (List ℕ)) (before after : FilesState) (status : Status) (out out_after err err_after : SinkState)
     → Refuses words before after status out out_after err err_after
-    → (status ≡ BadWords → ¬ IsCarriedOut words) × ((¬ IsCarriedOut words) → (status ≡ BadWords) ⊎ (status ≡ Memory))
+    → (status ≡ BadWords → ¬ IsAccepted words) × ((¬ IsAccepted words) → (status ≡ BadWords) ⊎ (status ≡ Memory))

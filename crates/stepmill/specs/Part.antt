@@ -1,6 +1,5 @@
 -- MEANING: what the bytes of a part give, one after the other, and what is refused of them (this project's own).
 use Rattle.std.specs.Prelude.{◌≡◌, ◌⊎◌, ℕ, ◌≤◌, ◌<◌, List, length, Ok, Err}
-use Rattle.sn_geom.specs.declared.units.Cell.{Cell}
 use Rattle.sn_p21.specs.Content.{Content}
 use Rattle.sn_p21.specs.FirstFault.{IsFirstFault}
 use Rattle.sn_p21.specs.PartText.{IsPartText}
@@ -11,7 +10,7 @@ use Rattle.sn_outline.specs.Job.{Job}
 use Rattle.sn_outline.specs.declared.job.StepJob.{StepJob}
 use Rattle.sn_link.specs.declared.moves.Move.{Move}
 use Rattle.sn_link.specs.Plan.{IsPlan}
-use Rattle.stepmill.specs.Text.{program_text}
+use Rattle.sn_program.specs.Text.{program_text}
 use Rattle.sn_raster.specs.Grid.{FitsGrid}
 use Rattle.sn_open.specs.Reach.{IsExecuted, HasRequired, IsFirstSmall, IsReachable, IsFirstUnreached}
 use Rattle.sn_words.specs.Options.{Options}
@@ -19,9 +18,9 @@ use Rattle.sn_flow.specs.declared.fault.JobFault.{JobFault}
 use Rattle.sn_flow.specs.declared.fault.JobFault.TheVariants.{GridTooBig, TooSmall}
 use Rattle.sn_flow.specs.JobOf.{job_of}
 use Rattle.stepmill.specs.declared.reading.TheConstants.{LONGEST, LONGEST_PROGRAM}
-use Rattle.stepmill.specs.declared.refusal.Refusal.{Refusal}
-use Rattle.stepmill.specs.declared.refusal.Refusal.TheVariants as refused
-use Rattle.stepmill.specs.FaultText.{p21_fault}
+use Rattle.sn_message.specs.declared.refusal.Refusal.{Refusal}
+use Rattle.sn_message.specs.declared.refusal.Refusal.TheVariants as refused
+use Rattle.sn_message.specs.FaultText.{p21_fault}
 
 -- the bytes are not too long, and are the text of this file
 pub record IsFileOf (bytes : List ℕ) (file : Content) : Type 0 where

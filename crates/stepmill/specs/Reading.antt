@@ -5,8 +5,8 @@ use Rattle.sn_io.specs.Files.{FilesState}
 use Rattle.sn_outline.specs.Job.{Job}
 use Rattle.sn_sweep.specs.Checking.{Checking, HasTaken}
 use Rattle.stepmill.specs.declared.reading.TheConstants.{LONGEST_PROGRAM}
-use Rattle.stepmill.specs.declared.refusal.Refusal.{Refusal}
-use Rattle.stepmill.specs.declared.refusal.Refusal.TheVariants.{NotRead, NoMemory, TooLong}
+use Rattle.sn_message.specs.declared.refusal.Refusal.{Refusal}
+use Rattle.sn_message.specs.declared.refusal.Refusal.TheVariants.{NotRead, NoMemory, TooLong}
 use Rattle.stepmill.specs.Outcome.{HasRisenBy}
 
 -- One reading.

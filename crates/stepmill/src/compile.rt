@@ -1,27 +1,28 @@
-//! The program of a part: its job, and the moves of its steps.
+//! The plan of a part: its job, and the moves of its steps.
 ghost use Rattle.std.specs.Prelude.{◌≡◌, ◌↔◌, ◌+◌, ◌<◌, IfOk, IfErr, IsTrue, length};
 ghost use Rattle.sn_open.specs.Reach.{IsReachable};
 ghost use Rattle.sn_raster.specs.Grid.{FitsGrid};
-ghost use Rattle.stepmill.specs.Found.{IsGoodPlan, plan_of};
+ghost use Rattle.sn_program.specs.Text.{program_text};
+ghost use Rattle.stepmill.specs.Answer.{generated_text};
+ghost use Rattle.stepmill.specs.Found.{IsGoodPlan, IsMemoryOr, IsPlannedFor, LeavesUncompiled, plan_of};
 ghost use Rattle.stepmill.specs.Outcome.{IsReadOf, IsRefusedFile};
 ghost use Rattle.stepmill.specs.Part.{IsCompiledPart, IsUncompiledPart};
 ghost use Rattle.stepmill.specs.Reading.{ReadsFile};
-ghost use Rattle.stepmill.specs.Text.{program_text};
 
-use crate::judge::look_at_reach;
-use crate::laws::good::goods;
+use crate::generated::generated_text;
+use crate::judge::{judge, look_at_reach};
 use crate::loading::load;
-use crate::numbers::instance_numbers;
 use crate::prepare::grid_of;
-use crate::program::write_program;
 use crate::reading::LONGEST;
-use crate::refusal::Refusal;
 use sn_geom::Memory;
 use sn_io::laws::counting;
 use sn_io::{CountSink, Files};
 use sn_link::laws::plans;
 use sn_link::{Plans, plan};
+use sn_message::Refusal;
 use sn_outline::Job;
+use sn_program::laws::good::goods;
+use sn_program::{instance_numbers, write_program};
 use sn_words::Opts;
 use std::alloc::Global;
 
@@ -45,6 +46,27 @@ pub fn compile<F: Files>(
     ensures reads { ReadsFile (F.state files.old) (F.state files.new) name.now (LONGEST + 1) }
 {
     let job = load(alloc, files, name, opts)?;
+    plan_job(alloc, job)
+}
+
+/// The job and the moves of the part that is generated from the seed of the options, or why no program is written for it.
+pub fn compile_generated(alloc: Global, opts: &Opts) -> Result<Planned, Refusal>
+    ensures compiled { IfOk result (λ planned. IsCompiledPart (generated_text opts.now.seed) opts.now planned.job) }
+    ensures good { IfOk result IsGoodPlan }
+    ensures refused { IfErr result (IsMemoryOr (IsUncompiledPart (generated_text opts.now.seed) opts.now)) }
+{
+    let text = generated_text(alloc, opts.seed)?;
+    let job = judge(alloc, text.as_slice(), opts)?;
+    plan_job(alloc, job)
+}
+
+/// The job of a sound part with its moves, or why no program is written for the part.
+fn plan_job(alloc: Global, job: Job) -> Result<Planned, Refusal>
+    requires { FitsGrid job }
+    ensures planned { IfOk result (IsPlannedFor job) }
+    ensures good { IfOk result IsGoodPlan }
+    ensures refused { IfErr result (IsMemoryOr (LeavesUncompiled job)) }
+{
     plans();
     look_at_reach(alloc, &job)?;
     let planned = with_plan(alloc, job)?;

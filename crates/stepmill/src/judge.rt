@@ -7,7 +7,7 @@ ghost use Rattle.stepmill.specs.Part.{HaveSoundModel, IsRefusedPart, IsSoundPart
 
 use crate::prepare::{grid_of, prepare};
 use crate::reading::LONGEST;
-use crate::refusal::Refusal;
+use sn_message::Refusal;
 use sn_model::{build, one_model};
 use sn_open::first_unreached;
 use sn_outline::Job;

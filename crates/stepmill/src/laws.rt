@@ -1,7 +1,4 @@
 //! Laws of the definitions. Each function's contract states laws, and the function does nothing.
 
 pub mod command;
-pub mod good;
-pub mod line;
 pub mod outcome;
-pub mod text;

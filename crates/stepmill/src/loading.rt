@@ -7,8 +7,8 @@ ghost use Rattle.stepmill.specs.Reading.{IsPastOne, ReadsFile};
 
 use crate::judge::judge;
 use crate::reading::{LONGEST, read_part};
-use crate::refusal::Refusal;
 use sn_io::Files;
+use sn_message::Refusal;
 use sn_outline::Job;
 use sn_words::Opts;
 use std::alloc::Global;

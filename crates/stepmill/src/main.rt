@@ -1,25 +1,21 @@
 //! stepmill: from a STEP-NC part program to a proved three-axis milling program, and the verdict on such a program.
 #![tactic(auto)]
 
-mod command;
 mod compile;
+mod find;
+mod generated;
 mod judge;
 mod laws;
 mod loading;
-mod message;
-mod numbers;
 mod prepare;
-mod program;
 mod program_reading;
 mod reading;
-mod refusal;
+mod report;
 mod run;
 mod status;
 #[cfg(test)]
 mod tests;
-mod verdict_message;
 mod verify;
-mod writer;
 
 pub use run::run;
 use sn_geom::Memory;

@@ -9,8 +9,8 @@ ghost use Rattle.stepmill.specs.Outcome.{IsReadOf};
 ghost use Rattle.stepmill.specs.Reading.{FeedsNext, IsUnreadProgram, ReadsFile, TakesAtMost};
 
 use crate::reading::{CHUNK, LONGEST_PROGRAM};
-use crate::refusal::Refusal;
 use sn_io::{Failed, Files};
+use sn_message::Refusal;
 use sn_open::Verdict;
 use sn_sweep::Checker;
 

@@ -4,8 +4,8 @@ ghost use Rattle.sn_io.specs.Count.{count_after};
 ghost use Rattle.sn_io.specs.Files.{Reads};
 ghost use Rattle.stepmill.specs.Reading.{AppendsNext, IsPastOne, IsUnread, ReadsFile, TakesAtMost};
 
-use crate::refusal::Refusal;
 use sn_io::Files;
+use sn_message::Refusal;
 use std::alloc::Global;
 
 /// The greatest length in bytes of a part file, and of a program that is written.

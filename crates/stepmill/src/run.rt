@@ -1,32 +1,30 @@
 //! The top call.
-ghost use Rattle.std.specs.Prelude.{◌≡◌, ◌≢◌, ◌⊎◌, ◌↔◌, List, ℕ, IsTrue, IfOk, IfErr};
+ghost use Rattle.std.specs.Prelude.{◌≡◌, ◌≢◌, ◌⊎◌, ◌↔◌, List, ℕ, IsTrue};
 ghost use Rattle.sn_io.specs.Count.{Rises};
 ghost use Rattle.sn_io.specs.Sink.{Takes, TakesFront, Writes};
+ghost use Rattle.sn_message.specs.RefusalText.{refusal_text};
 ghost use Rattle.sn_open.specs.Good.{Good};
 ghost use Rattle.sn_outline.specs.Job.{Job as JobContent};
-ghost use Rattle.sn_words.specs.Options.{Options};
-ghost use Rattle.stepmill.specs.Command.{IsCompile, IsVerify};
-ghost use Rattle.stepmill.specs.Found.{CanBeWritten, IsFoundFor, found_status, found_text};
-ghost use Rattle.stepmill.specs.Outcome.{Answers, Approves, Compiles, Ends, Explains, IsCaseOf, IsJobOf, IsOfDevices, ReadsOnce, Refuses, Rejects, Stops};
+ghost use Rattle.stepmill.specs.Answer.{generated_text};
+ghost use Rattle.stepmill.specs.Command.{AsksFor, AsksForCounts, IsMake};
+ghost use Rattle.stepmill.specs.Found.{CanBeWritten, found_status, found_text};
+ghost use Rattle.stepmill.specs.Outcome.{Answers, Approves, Compiles, Ends, IsCaseOf, IsJobOf, IsKnown, IsOfDevices, ReadsOnce, Refuses, Rejects, Reports, Stops, status_of};
 
-use crate::command::read_command;
-use crate::compile::{Planned, compile};
+use crate::find::{Found, find};
 use crate::judge::sound_or_refused;
 use crate::laws::outcome::one_case;
-use crate::program::write_program;
-use crate::refusal::{Refusal, refuse};
 use crate::status::Status;
-use crate::verdict_message::write_verdict;
-use crate::verify::verify;
-use sn_io::{Files, Sink, WriteFault};
-use sn_open::Verdict;
+use sn_io::{Files, Sink, WriteFault, write_all};
+use sn_message::{Refusal, write_refusal, write_verdict};
 use sn_open::verdict_laws::verdicts;
+use sn_program::write_program;
+use sn_report::summary;
 use sn_words::laws::one_meaning;
 use sn_words::{Command, Words};
 use std::alloc::Global;
 
-/// Carries out the command that the words are: reads from the files, and writes a program or a verdict to `out`, or a refusal to
-/// `err`.
+/// Carries out the command that the words are: reads from the files, and writes a program, a verdict, counts or a part to `out`, or
+/// a refusal to `err`.
 pub fn run<F: Files, S: Sink, E: Sink>(
     alloc: Global,
     words: &Words,
@@ -35,27 +33,33 @@ pub fn run<F: Files, S: Sink, E: Sink>(
     err: &mut E,
 ) -> Status
     // Memory and devices apart, the status and the texts are those of the outcome.
-    ensures outcome { IsTrue (F.state files.old).tells → ¬ IsOfDevices result
+    ensures outcome { IsKnown words.now (F.state files.old) → ¬ IsOfDevices result
         → Ends words.now (F.state files.old).given result
         (S.state out.old) (S.state out.new) (E.state err.old) (E.state err.new) }
 
     // What was written is the program of the part's job, and it is good for that job.
-    ensures compiles { result ≡ Status.Done → (part : List ℕ) (o : Options) → IsCompile words.now part o
+    ensures compiles { result ≡ Status.Done → AsksFor words.now Command.Compile
         → Compiles words.now (F.state files.old) (S.state out.old) (S.state out.new) }
 
     // A yes is told of a program that is good for the part's job, and a no of one that is not.
-    ensures approves { result ≡ Status.Done → (part program : List ℕ) (o : Options) → IsVerify words.now part program o
+    ensures approves { result ≡ Status.Done → AsksFor words.now Command.Verify
         → Approves words.now (F.state files.old) (S.state out.old) (S.state out.new) }
     ensures rejects { result ≡ Status.No → Rejects words.now (F.state files.old) (S.state out.old) (S.state out.new) }
+
+    // The counts that were told are those of the part's job, and a part that was written is the one of the seed.
+    ensures reports { result ≡ Status.Done → AsksForCounts words.now
+        → Reports words.now (F.state files.old) (S.state out.old) (S.state out.new) }
+    ensures makes { result ≡ Status.Done → (seed : ℕ) → IsMake words.now seed
+        → Takes (S.state out.old) (S.state out.new) (generated_text seed) }
 
     // Done and No come with the answer alone.
     ensures answers { (result ≡ Status.Done) ⊎ (result ≡ Status.No)
         → Answers words.now (F.state files.old) result
         (S.state out.old) (S.state out.new) (E.state err.old) (E.state err.new) }
 
-    // A part that is compiled has its program written, and a program for a sound part is judged, unless memory is wanting or a
-    // device fails.
-    ensures completes { IsTrue (F.state files.old).tells → (job : JobContent)
+    // A part that is compiled has its program written or its counts told, a program for a sound part is judged, and a part is
+    // generated, unless memory is wanting or a device fails.
+    ensures completes { IsKnown words.now (F.state files.old) → (job : JobContent)
         → IsJobOf words.now (F.state files.old).given job → (result ≡ Status.Done) ⊎ IsOfDevices result }
     ensures judges { IsTrue (F.state files.old).tells → (job : JobContent) (program : List ℕ)
         → IsCaseOf words.now (F.state files.old).given job program
@@ -63,6 +67,7 @@ pub fn run<F: Files, S: Sink, E: Sink>(
     ensures exactly { IsTrue (F.state files.old).tells → (job : JobContent) (program : List ℕ)
         → IsCaseOf words.now (F.state files.old).given job program → ¬ IsOfDevices result
         → (result ≡ Status.Done) ↔ Good job program }
+    ensures generates { AsksFor words.now Command.Make → (result ≡ Status.Done) ⊎ IsOfDevices result }
 
     // Each refusal has its cause, and is told.
     ensures refused { result ≢ Status.Done → result ≢ Status.No → result ≢ Status.WriteFault
@@ -89,36 +94,6 @@ pub fn run<F: Files, S: Sink, E: Sink>(
     }
 }
 
-/// What was found for a command: the job and the moves of the program to write, or the verdict to tell.
-#[derive(Drop)]
-enum Found {
-    Plan(Planned),
-    Verdict(Verdict),
-}
-
-/// Finds what the words ask for, or why there is none.
-fn find<F: Files>(alloc: Global, words: &Words, files: &mut F) -> Result<Found, Refusal>
-    ensures found { IfOk result (IsFoundFor words.now (F.state files.old)) }
-    ensures explains { IfErr result (Explains words.now (F.state files.old) (F.state files.new)) }
-    ensures reads_once { ReadsOnce words.now (F.state files.old) (F.state files.new) }
-{
-    one_meaning();
-    let opts = read_command(alloc, words)?;
-    match opts.command {
-        Command::Verify => {
-            let part = opts.files.get(0);
-            let program = opts.files.get(1);
-            let verdict = verify(alloc, files, part, program, &opts)?;
-            Ok(Found::Verdict(verdict))
-        }
-        _ => {
-            let part = opts.files.get(0);
-            let planned = compile(alloc, files, part, &opts)?;
-            Ok(Found::Plan(planned))
-        }
-    }
-}
-
 /// Writes the text of what was found, and gives its status.
 fn write<S: Sink>(out: &mut S, found: &Found) -> Status
     requires { CanBeWritten found.now }
@@ -140,16 +115,19 @@ fn write_text<S: Sink>(out: &mut S, found: &Found) -> Result<(), WriteFault>
     match found {
         Found::Plan(planned) => write_program(out, &planned.job, planned.moves.as_slice()),
         Found::Verdict(verdict) => write_verdict(out, *verdict),
+        Found::Counts(counts) => summary(out, counts),
+        Found::Part(text) => write_all(out, text.as_slice()),
     }
 }
 
-impl Found {
-    fn status(&self) -> Status
-        ensures { result ≡ found_status self.now }
-    {
-        match self {
-            Found::Plan(_) => Status::Done,
-            Found::Verdict(verdict) => Status::of_verdict(*verdict),
-        }
+/// Writes the text of a refusal to the errors, and gives its status.
+fn refuse<E: Sink>(err: &mut E, refusal: Refusal) -> Status
+    ensures either { (result ≡ status_of refusal) ⊎ (result ≡ Status.WriteFault) }
+    ensures told { result ≢ Status.WriteFault → (result ≡ status_of refusal) × Takes (E.state err.old) (E.state err.new) (refusal_text refusal) }
+    ensures stopped { result ≡ Status.WriteFault → TakesFront (E.state err.old) (E.state err.new) (refusal_text refusal) }
+{
+    match write_refusal(err, refusal) {
+        Ok(()) => Status::of_refusal(refusal),
+        Err(WriteFault) => Status::WriteFault,
     }
 }

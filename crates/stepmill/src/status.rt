@@ -2,8 +2,10 @@
 ghost use Rattle.std.specs.Prelude.{◌≡◌, ◌≢◌};
 ghost use Rattle.stepmill.specs.Answer.{status_of_verdict};
 ghost use Rattle.stepmill.specs.Exit.{exit_status, final_status};
+ghost use Rattle.stepmill.specs.Outcome.{status_of};
 
 use sn_geom::Memory;
+use sn_message::Refusal;
 use sn_open::Verdict;
 use std::io::ErrorKind;
 
@@ -57,6 +59,21 @@ impl Status {
             Verdict::Yes => Status::Done,
             Verdict::Line(..) | Verdict::NoEnd | Verdict::Missing(_) | Verdict::Uncovered(..) =>
                 Status::No,
+        }
+    }
+
+    /// The status of a refusal that was told.
+    pub fn of_refusal(refusal: Refusal) -> Status
+        ensures { result ≡ status_of refusal }
+    {
+        match refusal {
+            Refusal::Word(_) => Status::BadWords,
+            Refusal::NotRead => Status::ReadFault,
+            Refusal::NoMemory => Status::Memory,
+            Refusal::TooLong => Status::TooLong,
+            Refusal::Text(_) | Refusal::Model(_) | Refusal::Reference(_) | Refusal::Job(_) =>
+                Status::PartRefused,
+            Refusal::Uncovered(..) => Status::Uncovered,
         }
     }
 

@@ -117,6 +117,15 @@ const CALLS: u64 = 3;
 /// The writes of the sample's program.
 const WRITES: u64 = 11;
 
+/// Room for the output of a command.
+const ROOM: usize = 16_384;
+
+/// The counts of the sample part at a pitch of one millimetre.
+const COUNTS: &str = "steps 1
+grid 29 29
+ws 4 tool 1 strokes 1 layers 1 lifts 1 cells 294000
+";
+
 /// How a command over the files `one.stp` and `one.ngc` ends: its status, output and errors.
 #[derive(Drop)]
 struct End {
@@ -141,7 +150,7 @@ fn end_of(
     let mut files = MemFiles::new(rt.alloc());
     files.add(b"one.stp", part.as_bytes())?;
     files.add(b"one.ngc", program.as_bytes())?;
-    let mut out = MemSink::new(rt.alloc(), 1_000)?;
+    let mut out = MemSink::new(rt.alloc(), ROOM)?;
     let mut err = MemSink::new(rt.alloc(), 1_000)?;
     if let Some(call) = failing {
         files.fail_at(call)?;
@@ -247,6 +256,21 @@ fn unreachable_parts_are_judged(rt: HostRuntime) -> Result<(), Fail> {
     )?;
     let short = end_of(&rt, "verify one.stp", SAMPLE, PROGRAM, None, None)?;
     is_end(&short, Status::BadWords, "", "stepmill: word 3\n")
+}
+
+#[test]
+fn parts_are_counted(rt: HostRuntime) -> Result<(), Fail> {
+    let end = end_of(&rt, "report one.stp --cell 1000", SAMPLE, "", None, None)?;
+    is_end(&end, Status::Done, COUNTS, "")
+}
+
+#[test]
+fn parts_are_generated(rt: HostRuntime) -> Result<(), Fail> {
+    let end = end_of(&rt, "make 0", "", "", None, None)?;
+    assert_eq!(rt; end.status, Status::Done);
+    assert!(rt; end.out.as_slice().starts_with(b"ISO-10303-21;\nHEADER;\n"));
+    let large = end_of(&rt, "trial 4294967296", "", "", None, None)?;
+    is_end(&large, Status::BadWords, "", "stepmill: word 2\n")
 }
 
 #[test]

@@ -1,10 +1,13 @@
-//! Laws of the commands that are carried out.
-ghost use Rattle.stepmill.specs.CommandLaws.{CompileGoesByTheGrammar, OnePlace, OthersAreTurnedAway, VerifyGoesByTheGrammar};
+//! Laws of what words ask for.
+ghost use Rattle.stepmill.specs.CommandLaws.{AcceptedWordsAsk, OneCommand, TrialsHaveNoOptions};
 
-/// Laws of the commands that are carried out, and of those that are turned away.
+use sn_words::laws::one_meaning;
+
+/// Laws of what words ask for.
 pub fn commands()
-    ensures grammar { CompileGoesByTheGrammar }
-    ensures verify { VerifyGoesByTheGrammar }
-    ensures others { OthersAreTurnedAway }
-    ensures one_place { OnePlace }
-{}
+    ensures accepted { AcceptedWordsAsk }
+    ensures one_command { OneCommand }
+    ensures trials { TrialsHaveNoOptions }
+{
+    one_meaning();
+}

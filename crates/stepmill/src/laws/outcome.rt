@@ -7,6 +7,7 @@ use sn_model::one_model;
 use sn_open::verdict_laws::verdicts;
 use sn_p21::{one_fault, one_file};
 use sn_refs::laws::one_verdict;
+use sn_report::one_count;
 use sn_words::laws::one_meaning;
 
 /// Laws of refusals.
@@ -48,5 +49,6 @@ pub fn outcomes()
     verdicts();
     sound_or_refused();
     plans();
+    one_count();
     refusals();
 }

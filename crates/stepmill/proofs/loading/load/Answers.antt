@@ -1,8 +1,7 @@
 use Rattle.std.proofs.Common.{◌∙◌, length, sym, ap}
-use Rattle.std.proofs.lemmas.Result.{err_from_is_err_and}
 use Rattle.sn_outline.specs.Job.{Job}
-use Rattle.stepmill.specs.Part.{IsRefusedPart, IsSoundPart}
-use Rattle.stepmill.proofs.LoadLemmas.{if_read, refused_if_read, unread_file, long_if_read}
+use Rattle.stepmill.specs.Part.{IsSoundPart}
+use Rattle.stepmill.proofs.LoadLemmas.{if_read, refused_if_read, long_if_read}
 use Rattle.stepmill.proofs.loading.load.Goals as goal
 
 pub returns-clause-refused : goal.returns-clause-refused

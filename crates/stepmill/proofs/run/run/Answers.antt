@@ -1,4 +1,4 @@
-use Rattle.std.proofs.Common.{refl, sym, subst, ◌∙◌, inl, inr}
+use Rattle.std.proofs.Common.{refl, ◌∙◌, inl, inr}
 use Rattle.stepmill.specs.Outcome.Stops.{at_message}
 use Rattle.stepmill.proofs.AnswerLemmas as lemmas
 use Rattle.stepmill.proofs.run.run.Goals as goal
@@ -13,21 +13,41 @@ returns-in-Ok-clause-outcome g c = λ tells devices.
     let files = g.F.Files.state c.args.files.now in
     let (answer, known, text, status) = lemmas.answer_of c.args.words.now files c.in-Ok.found c.in-Ok.ensures.found in
     let was = lemmas.wrote _ _ _ c.in-Ok.found answer text status (c.write.ensures.done (λ e. devices (inr (inl e)))) in
-    lemmas.ends_answered c.args.words.now files answer _ _ _ _ tells known was
+    lemmas.ends_answered c.one_meaning.ensures c.args.words.now files answer _ _ _ _ tells known was
 
 pub returns-in-Ok-clause-compiles : goal.returns-in-Ok-clause-compiles
-returns-in-Ok-clause-compiles g c = λ done part o command.
+returns-in-Ok-clause-compiles g c = λ done asked.
     let files = g.F.Files.state c.args.files.now in
     let (answer, known, text, status) = lemmas.answer_of c.args.words.now files c.in-Ok.found c.in-Ok.ensures.found in
     let was = lemmas.wrote _ _ _ c.in-Ok.found answer text status (c.write.ensures.done (λ stopped. cc (done, stopped))) in
-    lemmas.compiles c.one_meaning.ensures c.args.words.now files answer _ _ _ part o command known was
+    lemmas.compiles c.one_meaning.ensures c.args.words.now files answer _ _ _ asked known was
 
 pub returns-in-Ok-clause-approves : goal.returns-in-Ok-clause-approves
-returns-in-Ok-clause-approves g c = λ done part program o command.
+returns-in-Ok-clause-approves g c = λ done asked.
     let files = g.F.Files.state c.args.files.now in
     let (answer, known, text, status) = lemmas.answer_of c.args.words.now files c.in-Ok.found c.in-Ok.ensures.found in
     let was = lemmas.wrote _ _ _ c.in-Ok.found answer text status (c.write.ensures.done (λ stopped. cc (done, stopped))) in
-    lemmas.approves c.one_meaning.ensures c.args.words.now files answer _ _ _ part program o command done known was
+    lemmas.approves c.one_meaning.ensures c.args.words.now files answer _ _ _ asked done known was
+
+pub returns-in-Ok-clause-reports : goal.returns-in-Ok-clause-reports
+returns-in-Ok-clause-reports g c = λ done asked.
+    let files = g.F.Files.state c.args.files.now in
+    let (answer, known, text, status) = lemmas.answer_of c.args.words.now files c.in-Ok.found c.in-Ok.ensures.found in
+    let was = lemmas.wrote _ _ _ c.in-Ok.found answer text status (c.write.ensures.done (λ stopped. cc (done, stopped))) in
+    lemmas.reports c.one_meaning.ensures c.args.words.now files answer _ _ _ asked known was
+
+pub returns-in-Ok-clause-makes : goal.returns-in-Ok-clause-makes
+returns-in-Ok-clause-makes g c = λ done seed asked.
+    let files = g.F.Files.state c.args.files.now in
+    let (answer, known, text, status) = lemmas.answer_of c.args.words.now files c.in-Ok.found c.in-Ok.ensures.found in
+    let was = lemmas.wrote _ _ _ c.in-Ok.found answer text status (c.write.ensures.done (λ stopped. cc (done, stopped))) in
+    lemmas.makes c.one_meaning.ensures c.args.words.now files answer _ _ _ seed asked known was
+
+pub returns-in-Ok-clause-generates : goal.returns-in-Ok-clause-generates
+returns-in-Ok-clause-generates g c = λ asked.
+    let files = g.F.Files.state c.args.files.now in
+    let (answer, known, text, status) = lemmas.answer_of c.args.words.now files c.in-Ok.found c.in-Ok.ensures.found in
+    lemmas.done_or_fault _ _ (status ∙ lemmas.generates c.one_meaning.ensures c.args.words.now files answer asked known) c.write.ensures.either
 
 pub returns-in-Ok-clause-rejects : goal.returns-in-Ok-clause-rejects
 returns-in-Ok-clause-rejects g c = λ refuses.
@@ -87,6 +107,18 @@ returns-in-Err-clause-compiles g c = λ done. absurd (lemmas.never_done _ c.in-E
 
 pub returns-in-Err-clause-approves : goal.returns-in-Err-clause-approves
 returns-in-Err-clause-approves g c = λ done. absurd (lemmas.never_done _ c.in-Err.refusal c.refuse.ensures.either done)
+
+pub returns-in-Err-clause-reports : goal.returns-in-Err-clause-reports
+returns-in-Err-clause-reports g c = λ done. absurd (lemmas.never_done _ c.in-Err.refusal c.refuse.ensures.either done)
+
+pub returns-in-Err-clause-makes : goal.returns-in-Err-clause-makes
+returns-in-Err-clause-makes g c = λ done. absurd (lemmas.never_done _ c.in-Err.refusal c.refuse.ensures.either done)
+
+pub returns-in-Err-clause-generates : goal.returns-in-Err-clause-generates
+returns-in-Err-clause-generates g c = λ asked.
+    let state = g.F.Files.state in
+    inr (lemmas.make_by_devices c.one_meaning.ensures c.args.words.now (state c.args.files.now) (state c.find.new.files) c.in-Err.refusal _ c.in-Err.ensures.explains asked
+    c.refuse.ensures.either)
 
 pub returns-in-Err-clause-rejects : goal.returns-in-Err-clause-rejects
 returns-in-Err-clause-rejects g c = λ refuses. absurd (lemmas.never_no _ c.in-Err.refusal c.refuse.ensures.either refuses)

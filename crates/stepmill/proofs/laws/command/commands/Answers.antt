@@ -1,14 +1,11 @@
-use Rattle.stepmill.proofs.CommandLemmas.{compile_goes_by_the_grammar, verify_goes_by_the_grammar, others_are_turned_away, one_place_alone}
+use Rattle.stepmill.proofs.CommandLemmas.{accepted_words_ask, one_command, trials_have_no_options}
 use Rattle.stepmill.proofs.laws.command.commands.Goals as goal
 
-pub returns-clause-grammar : goal.returns-clause-grammar
-returns-clause-grammar c = compile_goes_by_the_grammar
+pub returns-clause-accepted : goal.returns-clause-accepted
+returns-clause-accepted c = accepted_words_ask
 
-pub returns-clause-verify : goal.returns-clause-verify
-returns-clause-verify c = verify_goes_by_the_grammar
+pub returns-clause-one_command : goal.returns-clause-one_command
+returns-clause-one_command c = one_command c.one_meaning.ensures
 
-pub returns-clause-others : goal.returns-clause-others
-returns-clause-others c = others_are_turned_away
-
-pub returns-clause-one_place : goal.returns-clause-one_place
-returns-clause-one_place c = one_place_alone
+pub returns-clause-trials : goal.returns-clause-trials
+returns-clause-trials c = trials_have_no_options

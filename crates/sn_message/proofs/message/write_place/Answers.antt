@@ -1,0 +1,10 @@
+use Rattle.std.specs.Prelude.{codes}
+use Rattle.sn_message.proofs.RefusalLemmas.{number-first, number-later}
+use Rattle.sn_message.proofs.message.write_place.Goals as goal
+
+pub returns-in_err-write_number : goal.returns-in_err-write_number
+returns-in_err-write_number g c =
+    number-first c.from_residual.result _ _ c.args.words.now (codes "\n") c.args.place c.from_residual.ensures.0 c.in_err-write_number.ensures
+
+pub returns : goal.returns
+returns g c = number-later c.write_all.result _ _ _ c.args.words.now (codes "\n") c.args.place c.in_ok-write_number.ensures c.write_all.ensures

@@ -1,0 +1,4 @@
+pub mod CellText
+pub mod FaultText
+pub mod VerdictText
+pub mod RefusalText

@@ -1,0 +1,14 @@
+mod ActLemmas
+mod AlikeLemmas
+mod GoodLemmas
+mod LayoutLemmas
+mod LineLemmas
+mod MovesLemmas
+mod PlannedLemmas
+mod ProgramLemmas
+mod ReadLemmas
+mod SilentLemmas
+mod SplitLemmas
+mod StepLines
+mod TextLawLemmas
+mod WritableLemmas
