@@ -1,7 +1,8 @@
 -- Erosion and dilation by what marks cover.
-use Rattle.std.proofs.Common.{ℕ, ◌≤ℤ◌, ◌≡◌, ◌*◌, ◌<◌, ◌↔◌, ◌⊎◌, inl, inr, Bool, true, false, List, get_or, ℤ, pos, ◌-ℤ◌, ◌*ℤ◌, unsigned_abs, refl, sym, ap, ◌∙◌, ⊎_elim, arith}
-use Rattle.std.proofs.lemmas.Bool.{false≢true}
+use Rattle.std.proofs.Common.{ℕ, ◌≤ℤ◌, ◌≡◌, ◌+◌, ◌*◌, ◌<◌, ◌≤◌, ◌↔◌, ◌⊎◌, inl, inr, Bool, true, false, List, get_or, ℤ, pos, ◌-ℤ◌, ◌*ℤ◌, unsigned_abs, refl, sym, ap, ◌∙◌, subst, ⊎_elim, arith}
+use Rattle.std.proofs.lemmas.Bool.{cases_lt, false≢true}
 use Rattle.std.proofs.lemmas.Int.{ints, clamps, unsigned_abs-mul}
+use Rattle.std.proofs.lemmas.Nat.{mul-le}
 use Rattle.sn_geom.proofs.Ring.{sums, expand}
 use Rattle.sn_raster.specs.Grid.{Grid, Node, Nodes, place, places, InDisc, IsInWindow}
 use Rattle.sn_raster.specs.Plane.{Plane, Has, mark_of}
@@ -9,6 +10,7 @@ use Rattle.sn_open.specs.Region.{InBlock}
 use Rattle.sn_open.specs.Window.{rows, IsMarked}
 use Rattle.sn_open.specs.Spread.{IsCovered}
 use Rattle.sn_open.proofs.WindowLemmas.{in_own_window}
+use Rattle.sn_open.proofs.WidthLemmas.{square_le}
 use Rattle.sn_open.specs.Morphology.{IsWithin, AreDiscWidths, AreBlockWidths, IsClear, IsNearOne, HasBlock}
 
 -- Distances of nodes.
@@ -146,3 +148,46 @@ kept_blocks from mid to widths are same spread inverse n = (
             (all_or_one from (λ q. InBlock n q)).1 block ((covered_block from false widths n are window).0 ((spread n).0 covered).1),
       ),
 )
+
+-- Discs of one node.
+
+alone : (d pitch m k : ℕ) → d < 2 * pitch → IsWithin d pitch m k → (m ≡ 0) × (k ≡ 0)
+alone d pitch m k small within =
+    let more : (d + 1) * (d + 1) ≤ 2 * pitch * (2 * pitch) = square_le (d + 1) (2 * pitch) (omega arith) in (
+      ⊎_elim (λ (some : 0 < m). let h = square_le pitch (m * pitch) (at_least m pitch some) in absurd (omega arith)) (λ (none : m ≤ 0). omega arith) (cases_lt 0 m),
+      ⊎_elim (λ (some : 0 < k). let h = square_le pitch (k * pitch) (at_least k pitch some) in absurd (omega arith)) (λ (none : k ≤ 0). omega arith) (cases_lt 0 k),
+    )
+  where
+    at_least : (m pitch : ℕ) → 0 < m → pitch ≤ m * pitch
+    at_least m pitch some = let h : 1 * pitch ≤ m * pitch = mul-le 1 pitch m pitch (omega arith) (omega arith) in omega arith
+
+same_number : (a b : ℤ) → unsigned_abs (a -ℤ b) ≡ 0 → a ≡ b
+same_number a b none = omega (arith, ints)
+
+no_distance : (a : ℤ) → unsigned_abs (a -ℤ a) ≡ 0
+no_distance a = omega (arith, ints)
+
+no_other : (pitch d : ℕ) (c n : Node) → d < 2 * pitch → InDisc pitch d (place pitch c) n → n ≡ c
+no_other pitch d c n small disc =
+    let (across, along) = alone d pitch _ _ small ((in_disc pitch d c n).0 disc) in
+    let column = same_number n.i c.i across in
+    let row = same_number n.j c.j along in λ k. record { i = column k; j = row k }
+
+has_centre : (pitch d : ℕ) (n : Node) → InDisc pitch d (place pitch n) n
+has_centre pitch d n = (in_disc pitch d n n).1 (rw (no_distance n.i, no_distance n.j) (omega arith))
+
+pub eroded_alone : (from to : Plane) (d : ℕ) → d < 2 * from.grid.pitch → to ≡ from → (n : Node) → Has to n ↔ (IsInWindow from.grid n × IsClear from d n)
+eroded_alone from to d small same n =
+    let pitch = from.grid.pitch in
+    subst (λ (p : Plane). Has p n ↔ (IsInWindow from.grid n × IsClear from d n)) (sym same) (
+      λ has. (has.in_window, λ q q_in near. subst (λ m. Has from m) (sym (no_other pitch d n q small near)) has),
+      λ (window, clear). clear n window (has_centre pitch d n),
+    )
+
+pub dilated_alone : (from to : Plane) (d : ℕ) → d < 2 * from.grid.pitch → to ≡ from → (n : Node) → Has to n ↔ (IsInWindow from.grid n × IsNearOne from d n)
+dilated_alone from to d small same n =
+    let pitch = from.grid.pitch in
+    subst (λ (p : Plane). Has p n ↔ (IsInWindow from.grid n × IsNearOne from d n)) (sym same) (
+      λ has. (has.in_window, (n, has, has_centre pitch d n)),
+      λ (window, (q, has, near)). subst (λ m. Has from m) (sym (no_other pitch d q n small near)) has,
+    )

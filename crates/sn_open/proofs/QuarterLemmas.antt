@@ -6,9 +6,8 @@ use Rattle.sn_raster.specs.Grid.{Grid, Node, IsInWindow}
 use Rattle.sn_raster.specs.Plane.{Plane, Has, IsEmpty}
 use Rattle.sn_open.specs.declared.spread.Direction.{Direction}
 use Rattle.sn_open.specs.declared.spread.Direction.TheVariants.{Rising, Falling}
-use Rattle.sn_open.specs.declared.spread.Quarter.{Quarter}
 use Rattle.sn_open.specs.Window.{columns, rows, node_at, IsMarked}
-use Rattle.sn_open.specs.Spread.{place_in, node_by, IsTakenIn, IsCovered, Gains, HasAllTakenIn}
+use Rattle.sn_open.specs.Spread.{Quarter, quarter_of, place_in, node_by, IsTakenIn, IsCovered, Gains, HasAllTakenIn}
 use Rattle.sn_open.proofs.WindowLemmas.{at_window, column_of, row_of, in_own_window}
 
 apart_rising : (first : ℤ) (k' k : ℕ) → k' ≤ k → unsigned_abs ((first +ℤ pos k) -ℤ (first +ℤ pos k')) ≡ k - k'
@@ -102,17 +101,6 @@ taken_of_covered plane on widths n window (mark, covers) =
 
     near_at : (widths : List ℕ) (a b k m : ℕ) → a ≡ k → b ≡ m → a < get_or widths b 0 → k < get_or widths m 0
     near_at widths a b k m e f h = let w = ap (λ r. get_or widths r 0) f in omega arith
-
--- the node at computed places
-pub by_places : (quarter : Quarter) (g : Grid) (column row c r n m : ℕ) → n ≡ columns g → m ≡ rows g → c ≡ place_in quarter.columns n column → r ≡ place_in quarter.rows m row
-    → node_at g c r ≡ node_by quarter g column row
-by_places quarter g column row c r n m ns ms cs rs =
-    let across = cs ∙ ap (λ k. place_in quarter.columns k column) ns in
-    let along = rs ∙ ap (λ k. place_in quarter.rows k row) ms in
-    λ k. record { i = g.i0 +ℤ pos (across k); j = g.j0 +ℤ pos (along k) }
-
-abbrev pub quarter_of : Direction → Direction → Quarter
-quarter_of columns rows = record { columns = columns; rows = rows }
 
 -- where all quarters are taken in, the plane has what is covered
 all_quarters : (from : Plane) (on : Bool) (widths : List ℕ) (to : Plane)

@@ -1,6 +1,6 @@
 -- Planes that are put row by row.
-use Rattle.std.proofs.Common.{ℕ, ◌≡◌, ◌+◌, ◌<◌, ◌≤◌, ◌≤ℤ◌, ◌↔◌, ◌⊎◌, inl, inr, Bool, true, false, not, IsTrue, ℤ, pos, ◌+ℤ◌, refl, sym, ap, ◌∙◌, subst, ⊎_elim, arith}
-use Rattle.std.proofs.lemmas.Bool.{cases_lt, false≢true}
+use Rattle.std.proofs.Common.{ℕ, ◌≡◌, ◌+◌, ◌<◌, ◌≤◌, ◌≤ℤ◌, ◌↔◌, ◌⊎◌, inl, inr, Bool, IsTrue, ℤ, pos, ◌+ℤ◌, sym, ap, ◌∙◌, subst, ⊎_elim, arith}
+use Rattle.std.proofs.lemmas.Bool.{cases_lt}
 use Rattle.std.proofs.lemmas.Int.{ints}
 use Rattle.sn_raster.specs.Grid.{Grid, Node, Nodes, IsInWindow}
 use Rattle.sn_raster.specs.Plane.{Plane, Has}
@@ -86,12 +86,6 @@ all_rows P g row old new end put n = (
       subst (λ m. Has new m) (sym at.is) ((put.done _ _ at.column_in (omega arith)).1 (subst P at.is p)),
 )
 
--- Tests.
-
-pub other_test : (b : Bool) (A B : Type 0) → (IsTrue b ↔ A) → (A ↔ B) → IsTrue (not b) ↔ (¬ B)
-other_test true A B test same = ((λ e. absurd (false≢true e)), (λ none. absurd (none (same.0 (test.0 refl)))))
-other_test false A B test same = ((λ _ b. false≢true (test.1 (same.1 b))), (λ _. refl))
-
 pub whole_row : (P : Nodes) (g : Grid) (row column end : ℕ) (old new : Plane) → end ≡ columns g → column ≤ end → end ≤ column
     → IsRowPut P g row old new column → IsRowPut P g row old new (columns g)
 whole_row P g row column end old new e below above put = let same : column ≡ columns g = omega arith in subst (λ k. IsRowPut P g row old new k) same put
@@ -99,9 +93,6 @@ whole_row P g row column end old new e below above put = let same : column ≡ c
 -- in the window of an equal grid
 pub of_grid : (P : Nodes) (new : Plane) (g h : Grid) → g ≡ h → ((n : Node) → Has new n ↔ (IsInWindow g n × P n)) → (n : Node) → Has new n ↔ (IsInWindow h n × P n)
 of_grid P new g h same nodes = subst (λ k. (n : Node) → Has new n ↔ (IsInWindow k n × P n)) same nodes
-
-pub or_not : (A B : Type 0) → (A ↔ B) → (¬ A) ↔ (¬ B)
-or_not A B same = ((λ none b. none (same.1 b)), (λ none a. none (same.0 a)))
 
 -- a row that was filled by its places
 pub filled_row : (P : Nodes) (g : Grid) (row : ℕ) (j : ℤ) (old new : Plane) → row < rows g → j ≡ g.j0 +ℤ pos row → old.grid ≡ g → new.grid ≡ g

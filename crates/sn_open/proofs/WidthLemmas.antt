@@ -7,7 +7,7 @@ use Rattle.sn_geom.specs.Sweep.{IsHalfWidth}
 use Rattle.sn_open.specs.Morphology.{IsWithin, AreDiscWidths, AreBlockWidths}
 use Rattle.sn_open.specs.Spread.{AreHalfWidths}
 
-square_le : (a b : ℕ) → a ≤ b → a * a ≤ b * b
+pub square_le : (a b : ℕ) → a ≤ b → a * a ≤ b * b
 square_le a b h = mul-le a a b b h h
 
 scaled_le : (m w pitch : ℕ) → 0 < pitch → m < w / pitch + 1 → m * pitch ≤ w

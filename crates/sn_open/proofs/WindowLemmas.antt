@@ -1,11 +1,10 @@
 -- The window by columns and rows.
-use Rattle.std.proofs.Common.{ℕ, ◌≡◌, ◌*◌, ◌<◌, ◌≤◌, ◌↔◌, ℤ, pos, ◌+ℤ◌, ◌-ℤ◌, ◌*ℤ◌, ◌≤ℤ◌, unsigned_abs, refl, sym, ap, ◌∙◌, subst, ◌⊎◌, inl, inr, Bool, true, false, IsTrue, negsuc, w32, to_z, of_z, ⊎_elim, arith}
+use Rattle.std.proofs.Common.{ℕ, ◌≡◌, ◌*◌, ◌<◌, ◌≤◌, ◌↔◌, ℤ, pos, ◌+ℤ◌, ◌-ℤ◌, ◌*ℤ◌, ◌≤ℤ◌, unsigned_abs, refl, sym, ap, ◌∙◌, subst, ◌⊎◌, inl, inr, Bool, true, IsTrue, negsuc, w32, to_z, of_z, ⊎_elim, arith}
 use lib.Signed.{mag}
 use Rattle.sn_geom.specs.declared.limits.TheConstants.{REACH}
 use Rattle.sn_geom.proofs.Ring.{sums}
 use Rattle.sn_geom.specs.Length.{IsLength}
 use Rattle.std.proofs.lemmas.Int.{ints, clamps, by_lt_z, to_z-of_z}
-use Rattle.std.proofs.lemmas.Bool.{false≢true}
 use Rattle.sn_raster.specs.Grid.{Grid, Node, IsGrid, IsInWindow, IsInRaw, places}
 use Rattle.sn_raster.specs.Plane.{Plane, Has}
 use Rattle.sn_open.specs.Window.{columns, rows, node_at}
@@ -108,12 +107,6 @@ put_in old new m m' same here others n =
           ⊎_elim (λ (before : Has old n). ⊎_elim (λ (is : n ≡ m'). added (is ∙ same)) (λ (other : ¬ n ≡ m'). (others n other).1 before) (same_or_other n m'))
           (λ (is : n ≡ m). added is) either,
     )
-
--- a node that was taken out, and the others
-pub took_out : (old new : Plane) (m : Node) → (Has new m ↔ IsTrue false) → ((n : Node) → ¬ n ≡ m → Has new n ↔ Has old n)
-    → (n : Node) → Has new n → Has old n × (¬ n ≡ m)
-took_out old new m here others n has =
-    ⊎_elim (λ (is : n ≡ m). absurd (false≢true (here.0 (subst (λ k. Has new k) is has)))) (λ (other : ¬ n ≡ m). ((others n other).0 has, other)) (same_or_other n m)
 
 -- a passed place, between others
 pub between_passed : (first last from place : ℤ) (first' last' from' place' : ℤ) (k : ℕ) → first' ≡ first → last' ≡ last → from' ≡ from → place' ≡ place → place ≡ from' +ℤ pos k

@@ -11,7 +11,7 @@ ghost use Rattle.sn_open.specs.OnGrid.{KeepsSideOn};
 ghost use Rattle.sn_open.specs.Morphology.{IsClear, IsNearOne, HasBlock};
 
 use crate::morphology::Room;
-use crate::planes::{fill, invert};
+use crate::planes::fill;
 use sn_geom::{Memory, REACH};
 use sn_outline::{Bottom, Outline, StepJob, tip_floor};
 use sn_raster::laws::grids;
@@ -91,9 +91,9 @@ impl Allowed {
         let g = self.nodes.grid();
         g.rule();
         fill(o, &mut self.nodes);
-        invert(&mut self.nodes);
+        self.nodes.invert();
         self.room.keep_raw(&self.nodes, &mut self.spare);
-        invert(&mut self.spare);
+        self.spare.invert();
         self.room.erode(2 * side, &self.spare, &mut self.nodes);
     }
 

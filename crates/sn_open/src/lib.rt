@@ -34,6 +34,3 @@ pub use required::Required;
 pub use stroke::{Stroke, Strokes};
 pub use verdict::{Cause, Verdict};
 pub use window::{columns_of, has_at, put_at, rows_of};
-
-#[cfg(test)]
-mod tests;

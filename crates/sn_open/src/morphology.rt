@@ -1,11 +1,11 @@
 //! Erosion and dilation of planes of nodes.
-ghost use Rattle.std.specs.Prelude.{◌≡◌, ◌↔◌, ◌+◌, ◌*◌, ◌≤◌, length, IfOk};
+ghost use Rattle.std.specs.Prelude.{◌≡◌, ◌↔◌, ◌+◌, ◌*◌, ◌≤◌, ◌<◌, length, IsTrue, IfOk};
 ghost use Rattle.sn_raster.specs.Grid.{Node, IsInWindow, IsInRaw};
 ghost use Rattle.sn_raster.specs.Plane.{Has};
 ghost use Rattle.sn_open.specs.Window.{columns, rows as rows_in};
 ghost use Rattle.sn_open.specs.Morphology.{IsClear, IsNearOne, HasBlock};
 
-use crate::planes::{fill_raw, invert};
+use crate::planes::fill_raw;
 use crate::spread::spread;
 use crate::widths::{set_block_widths, set_disc_widths};
 use crate::window::{columns_of, rows_of};
@@ -106,9 +106,13 @@ fn erode_in(widths: &mut [u32], gaps: &mut [u32], d: u32, from: &Bits, to: &mut 
 {
     let g = from.grid();
     g.rule();
+    if has_no_other(d, &g) {
+        to.copy(from);
+        return;
+    }
     set_disc_widths(widths, d, g.pitch, rows_of(&g));
     spread(from, false, widths, gaps, to);
-    invert(to);
+    to.invert();
 }
 
 fn dilate_in(widths: &mut [u32], gaps: &mut [u32], d: u32, from: &Bits, to: &mut Bits)
@@ -121,8 +125,20 @@ fn dilate_in(widths: &mut [u32], gaps: &mut [u32], d: u32, from: &Bits, to: &mut
 {
     let g = from.grid();
     g.rule();
+    if has_no_other(d, &g) {
+        to.copy(from);
+        return;
+    }
     set_disc_widths(widths, d, g.pitch, rows_of(&g));
     spread(from, true, widths, gaps, to);
+}
+
+/// Whether a disc of diameter `d` about a node has no other node.
+fn has_no_other(d: u32, g: &Grid) -> bool
+    ensures { IsTrue result ↔ d < 2 * g.now.pitch }
+{
+    g.rule();
+    d < 2 * g.pitch
 }
 
 fn keep_blocks_in(widths: &mut [u32], gaps: &mut [u32], from: &Bits, to: &mut Bits)
@@ -135,5 +151,5 @@ fn keep_blocks_in(widths: &mut [u32], gaps: &mut [u32], from: &Bits, to: &mut Bi
     let g = from.grid();
     set_block_widths(widths, rows_of(&g));
     spread(from, false, widths, gaps, to);
-    invert(to);
+    to.invert();
 }

@@ -12,7 +12,6 @@ ghost use Rattle.sn_open.specs.Region.{IsFollowed, IsDrilledAtCentre};
 use crate::allowed::Allowed;
 use crate::laws::outside;
 use crate::planes::{add_near, has_all};
-use crate::window::clear;
 use sn_geom::laws::nearness;
 use sn_geom::{Memory, Pt, REACH, Seg};
 use sn_outline::laws::shapes;
@@ -130,7 +129,7 @@ impl Opening {
     {
         g.rule();
         grids();
-        clear(&mut self.near, g);
+        self.near.clear();
         add_followed(s, &mut self.near);
         self.allowed.keep_raw(&self.near, &mut self.nodes);
     }
@@ -147,7 +146,7 @@ impl Opening {
         outside();
         grids();
         self.allowed.refill(s, g);
-        clear(&mut self.near, g);
+        self.near.clear();
         add_drilled(s, &self.allowed, &mut self.near);
         self.allowed.keep_raw(&self.near, &mut self.nodes);
     }
@@ -218,6 +217,6 @@ fn add_disc_with_room(allowed: &Allowed, d: u32, centre: &Pt, plane: &mut Bits)
         },
     );
     if !has_all(allowed.nodes(), plane) {
-        clear(plane, &g);
+        plane.clear();
     }
 }

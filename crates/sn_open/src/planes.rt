@@ -12,28 +12,6 @@ use sn_geom::{REACH, Seg, near};
 use sn_outline::Outline;
 use sn_raster::{Bits, Grid, fill_row};
 
-/// Makes it the plane of the nodes of the window that it lacks.
-pub(crate) fn invert(plane: &mut Bits)
-    ensures grid { plane.new.grid ≡ plane.old.grid }
-    ensures nodes { (n : Node) → Has plane.new n ↔ (IsInWindow plane.old.grid n × ¬ Has plane.old n) }
-{
-    let g = plane.grid();
-    for row in 0..rows_of(&g) {
-        invert_row(plane, &g, row);
-    }
-}
-
-fn invert_row(plane: &mut Bits, g: &Grid, row: u32)
-    requires grid { plane.old.grid ≡ g.now }
-    requires row { row < rows g.now }
-    ensures { IsRowPut (λ n. ¬ Has plane.old n) g.now row plane.old plane.new (columns g.now) }
-{
-    for column in 0..columns_of(g) {
-        let on = !has_at(plane, g, column, row);
-        put_at(plane, g, column, row, on);
-    }
-}
-
 /// Makes it the plane of the raw nodes.
 pub(crate) fn fill_raw(plane: &mut Bits)
     ensures grid { plane.new.grid ≡ plane.old.grid }
@@ -55,41 +33,6 @@ fn fill_raw_row(plane: &mut Bits, g: &Grid, row: u32)
         let on = is_raw_at(g, column, row);
         put_at(plane, g, column, row, on);
     }
-}
-
-/// Puts in the nodes that the other plane has.
-pub(crate) fn unite(plane: &mut Bits, other: &Bits)
-    requires { other.now.grid ≡ plane.old.grid }
-    ensures grid { plane.new.grid ≡ plane.old.grid }
-    ensures nodes { (n : Node) → Has plane.new n ↔ (Has plane.old n ⊎ Has other.now n) }
-{
-    let g = plane.grid();
-    for row in 0..rows_of(&g) {
-        unite_row(plane, other, &g, row);
-    }
-}
-
-fn unite_row(plane: &mut Bits, other: &Bits, g: &Grid, row: u32)
-    requires grid { plane.old.grid ≡ g.now }
-    requires other { other.now.grid ≡ g.now }
-    requires row { row < rows g.now }
-    ensures { IsRowPut (λ n. Has plane.old n ⊎ Has other.now n) g.now row plane.old plane.new (columns g.now) }
-{
-    for column in 0..columns_of(g) {
-        let on = has_either_at(plane, other, g, column, row);
-        put_at(plane, g, column, row, on);
-    }
-}
-
-/// Whether one of the planes has the node in this column and row.
-fn has_either_at(plane: &Bits, other: &Bits, g: &Grid, column: u32, row: u32) -> bool
-    requires grid { plane.now.grid ≡ g.now }
-    requires other { other.now.grid ≡ g.now }
-    requires column { column < columns g.now }
-    requires row { row < rows g.now }
-    ensures { IsTrue result ↔ (Has plane.now (node_at g.now column row) ⊎ Has other.now (node_at g.now column row)) }
-{
-    has_at(plane, g, column, row) || has_at(other, g, column, row)
 }
 
 /// Whether the plane has the node in this column and row, and the other has not.

@@ -10,9 +10,9 @@ ghost use Rattle.sn_open.specs.Search.{IsFullAt, OpensAt, IsOpenedAt, lowest_of_
 
 use crate::least::{Allowance, step_of_least};
 use crate::opening::Opening;
-use crate::planes::{first_alone, has_all, unite};
+use crate::planes::{first_alone, has_all};
 use crate::required::Required;
-use crate::window::{clear, place_after};
+use crate::window::place_after;
 use sn_geom::{Cell, Memory};
 use sn_outline::{Job, StepJob, tip_floor};
 use sn_raster::{Bits, Grid};
@@ -184,7 +184,7 @@ fn open_at(j: &Job, g: &Grid, opening: &mut Opening, reached: &mut Bits, feature
     ensures reached { reached.new.grid ≡ g.now }
     ensures nodes { (n : Node) → Has reached.new n ↔ IsOpenedAt j.now feature z n }
 {
-    clear(reached, g);
+    reached.clear();
     for step in j.steps() {
         add_opening(j, step, g, opening, reached, feature, z);
     }
@@ -211,7 +211,7 @@ fn add_opening(
     j.rule();
     if opens_at(step, feature, z) {
         opening.refill(step, g);
-        unite(reached, opening.nodes());
+        reached.unite(opening.nodes());
     }
 }
 

@@ -10,7 +10,6 @@ ghost use Rattle.sn_open.specs.Reach.{IsExecuted};
 use crate::allowed::Allowed;
 use crate::laws::outside;
 use crate::least::{Allowance, step_of_least};
-use crate::planes::invert;
 use sn_geom::Memory;
 use sn_outline::{Job, StepJob};
 use sn_raster::laws::grids;
@@ -97,9 +96,9 @@ impl Required {
         self.allowed.refill(s, g);
         self.allowed.erode(s.corner, &mut self.first);
         self.allowed.dilate(s.corner, &self.first, &mut self.second);
-        invert(&mut self.second);
+        self.second.invert();
         self.allowed.keep_raw(&self.second, &mut self.first);
-        invert(&mut self.first);
+        self.first.invert();
         self.allowed.keep_blocks(&self.first, &mut self.second);
         self.allowed.keep_raw(&self.second, &mut self.nodes);
     }

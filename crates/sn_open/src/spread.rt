@@ -1,9 +1,9 @@
 //! How marked nodes spread over the window of a plane.
-ghost use Rattle.std.specs.Prelude.{◌≡◌, ◌↔◌, ◌⊎◌, ◌+◌, ◌≤◌, ◌<◌, length, IsTrue};
+ghost use Rattle.std.specs.Prelude.{◌≡◌, ◌↔◌, ◌+◌, ◌≤◌, ◌<◌, ℕ, length, slice_index, IsTrue};
 ghost use Rattle.sn_raster.specs.Grid.{Node, IsInWindow};
 ghost use Rattle.sn_raster.specs.Plane.{Has};
-ghost use Rattle.sn_open.specs.Window.{columns, rows as rows_in, IsMarked};
-ghost use Rattle.sn_open.specs.Spread.{place_in, node_by, AreHalfWidths, IsGap, AreGaps, ArePassing, IsReach, IsCovered, Gains, HasTakenIn, HasAllTakenIn, IsTakenIn};
+ghost use Rattle.sn_open.specs.Window.{columns, rows};
+ghost use Rattle.sn_open.specs.Spread.{place_in, AreHalfWidths, AreGaps, IsReach, GainsInRow, IsCovered, Gains, HasTakenIn, HasAllTakenIn};
 
 use crate::window::{clear, columns_of, is_marked_at, put_at, rows_of};
 use sn_raster::{Bits, Grid};
@@ -13,13 +13,6 @@ use sn_raster::{Bits, Grid};
 pub(crate) enum Direction {
     Rising,
     Falling,
-}
-
-/// The directions in which marks take in later nodes.
-#[derive(Clone, Copy)]
-pub(crate) struct Quarter {
-    pub(crate) columns: Direction,
-    pub(crate) rows: Direction,
 }
 
 /// The `k`-th of `n` places in a direction, counted from 0.
@@ -40,7 +33,7 @@ fn place_of(direction: Direction, n: u32, k: u32) -> u32
 /// column.
 pub(crate) fn spread(from: &Bits, on: bool, widths: &[u32], gaps: &mut [u32], to: &mut Bits)
     requires grid { to.old.grid ≡ from.now.grid }
-    requires widths { AreHalfWidths (rows_in from.now.grid) widths.now }
+    requires widths { AreHalfWidths (rows from.now.grid) widths.now }
     requires room { length gaps.old ≡ columns from.now.grid }
     ensures grid { to.new.grid ≡ from.now.grid }
     ensures nodes { (n : Node) → Has to.new n ↔ (IsInWindow from.now.grid n × IsCovered from.now on widths.now n) }
@@ -59,156 +52,93 @@ fn spread_rows(
     gaps: &mut [u32],
     to: &mut Bits,
     g: &Grid,
-    rows: Direction,
+    along: Direction,
 )
     requires grid { from.now.grid ≡ g.now }
     requires to_grid { to.old.grid ≡ g.now }
-    requires widths { AreHalfWidths (rows_in from.now.grid) widths.now }
+    requires widths { AreHalfWidths (rows from.now.grid) widths.now }
     requires room { length gaps.old ≡ columns from.now.grid }
     ensures gains { Gains from.now on widths.now to.old to.new }
-    ensures rising { HasAllTakenIn from.now on (record { columns = Direction.Rising; rows = rows }) widths.now to.new (rows_in from.now.grid) }
-    ensures falling { HasAllTakenIn from.now on (record { columns = Direction.Falling; rows = rows }) widths.now to.new (rows_in from.now.grid) }
+    ensures rising { HasAllTakenIn from.now on (record { columns = Direction.Rising; rows = along }) widths.now to.new (rows from.now.grid) }
+    ensures falling { HasAllTakenIn from.now on (record { columns = Direction.Falling; rows = along }) widths.now to.new (rows from.now.grid) }
 {
-    let rising = Quarter {
-        columns: Direction::Rising,
-        rows,
-    };
-    spread_quarter(from, on, widths, gaps, to, g, rising);
-    let falling = Quarter {
-        columns: Direction::Falling,
-        rows,
-    };
-    spread_quarter(from, on, widths, gaps, to, g, falling);
-}
-
-/// Puts in what marks take in over a quarter.
-fn spread_quarter(
-    from: &Bits,
-    on: bool,
-    widths: &[u32],
-    gaps: &mut [u32],
-    to: &mut Bits,
-    g: &Grid,
-    quarter: Quarter,
-)
-    requires grid { from.now.grid ≡ g.now }
-    requires to_grid { to.old.grid ≡ g.now }
-    requires widths { AreHalfWidths (rows_in from.now.grid) widths.now }
-    requires room { length gaps.old ≡ columns from.now.grid }
-    ensures gains { Gains from.now on widths.now to.old to.new }
-    ensures taken { HasAllTakenIn from.now on quarter widths.now to.new (rows_in from.now.grid) }
-{
-    let rows = rows_of(g);
-    gaps.fill(rows);
-    for row in 0..rows {
-        visit_row(from, on, widths, gaps, to, g, quarter, row);
+    let count = rows_of(g);
+    gaps.fill(count);
+    for row in 0..count {
+        spread_row(from, on, widths, gaps, to, g, along, row);
     }
 }
 
-/// Puts in what marks take in over a row of a quarter.
-fn visit_row(
+/// Puts in what marks take in of a row.
+fn spread_row(
     from: &Bits,
     on: bool,
     widths: &[u32],
     gaps: &mut [u32],
     to: &mut Bits,
     g: &Grid,
-    quarter: Quarter,
+    along: Direction,
     row: u32,
 )
     requires grid { from.now.grid ≡ g.now }
     requires to_grid { to.old.grid ≡ g.now }
-    requires row { row < rows_in from.now.grid }
-    requires widths { AreHalfWidths (rows_in from.now.grid) widths.now }
-    requires gaps { AreGaps from.now on quarter row gaps.old }
-    ensures gaps { AreGaps from.now on quarter (row + 1) gaps.new }
+    requires row { row < rows from.now.grid }
+    requires widths { AreHalfWidths (rows from.now.grid) widths.now }
+    requires gaps { AreGaps from.now on along row gaps.old }
+    ensures gaps { AreGaps from.now on along (row + 1) gaps.new }
     ensures gains { Gains from.now on widths.now to.old to.new }
-    ensures taken { HasTakenIn from.now on quarter widths.now row to.new (columns from.now.grid) }
+    ensures rising { HasTakenIn from.now on (record { columns = Direction.Rising; rows = along }) widths.now row to.new (columns from.now.grid) }
+    ensures falling { HasTakenIn from.now on (record { columns = Direction.Falling; rows = along }) widths.now row to.new (columns from.now.grid) }
 {
-    let mut reach: u64 = 0;
+    pass_row(from, on, g, along, row, gaps);
+    let at = place_of(along, rows_of(g), row);
+    take_in(widths, gaps, to, g, Direction::Rising, at);
+    take_in(widths, gaps, to, g, Direction::Falling, at);
+}
+
+/// Makes the gaps before a row those after it.
+fn pass_row(from: &Bits, on: bool, g: &Grid, along: Direction, row: u32, gaps: &mut [u32])
+    requires grid { from.now.grid ≡ g.now }
+    requires row { row < rows from.now.grid }
+    requires gaps { AreGaps from.now on along row gaps.old }
+    ensures { AreGaps from.now on along (row + 1) gaps.new }
+{
+    let count = rows_of(g);
+    let at = place_of(along, count, row);
     for column in 0..columns_of(g) {
-        reach = visit(from, on, widths, gaps, to, g, quarter, row, column, reach);
+        let marked = is_marked_at(from, on, g, column, at);
+        gaps[column as usize] = gap_after(gaps[column as usize], marked, count);
     }
 }
 
-/// Puts the node in this column and row of a quarter in where a mark takes it in, and gives how far marks reach from here.
-fn visit(
-    from: &Bits,
-    on: bool,
-    widths: &[u32],
-    gaps: &mut [u32],
-    to: &mut Bits,
-    g: &Grid,
-    quarter: Quarter,
-    row: u32,
-    column: u32,
-    reach: u64,
-) -> u64
-    requires grid { from.now.grid ≡ g.now }
-    requires to_grid { to.old.grid ≡ g.now }
-    requires row { row < rows_in from.now.grid }
-    requires column { column < columns from.now.grid }
-    requires widths { AreHalfWidths (rows_in from.now.grid) widths.now }
-    requires gaps { ArePassing from.now on quarter row column gaps.old }
-    requires reach { IsReach widths.now gaps.old column reach }
-    ensures gaps { ArePassing from.now on quarter row (column + 1) gaps.new }
-    ensures reach { IsReach widths.now gaps.new (column + 1) result }
-    ensures gains { Gains from.now on widths.now to.old to.new }
-    ensures taken { IsTakenIn from.now on quarter widths.now column row → Has to.new (node_by quarter from.now.grid column row) }
+/// The gap after a row, by that before it and whether the node in the row is marked.
+fn gap_after(gap: u32, marked: bool, rows: u32) -> u32
+    ensures marked { IsTrue marked → result ≡ 0 }
+    ensures more { result ≤ gap + 1 }
+    ensures unmarked { ¬ IsTrue marked → result < rows → result ≡ gap + 1 }
+    ensures few { result ≤ rows }
 {
-    let gap = gap_after(from, on, g, quarter, row, column, gaps[column as usize]);
-    gaps[column as usize] = gap;
-    let reach = reach.max(u64::from(column) + u64::from(widths[gap as usize]));
-    if reach > u64::from(column) {
-        put_by(to, g, quarter, column, row);
-    }
-    reach
-}
-
-/// The gap in a column after a row, by that before the row.
-fn gap_after(
-    from: &Bits,
-    on: bool,
-    g: &Grid,
-    quarter: Quarter,
-    row: u32,
-    column: u32,
-    gap: u32,
-) -> u32
-    requires grid { from.now.grid ≡ g.now }
-    requires row { row < rows_in from.now.grid }
-    requires column { column < columns from.now.grid }
-    requires gap { IsGap from.now on quarter column row gap }
-    ensures value { IsGap from.now on quarter column (row + 1) result }
-    ensures size { result ≤ rows_in from.now.grid }
-{
-    if is_marked_by(from, on, g, quarter, column, row) {
+    if marked {
         return 0;
     }
-    gap.saturating_add(1).min(rows_of(g))
+    gap.saturating_add(1).min(rows)
 }
 
-/// Whether the node in this column and row of a quarter is marked.
-fn is_marked_by(from: &Bits, on: bool, g: &Grid, quarter: Quarter, column: u32, row: u32) -> bool
-    requires grid { from.now.grid ≡ g.now }
-    requires row { row < rows_in from.now.grid }
-    requires column { column < columns from.now.grid }
-    ensures { IsTrue result ↔ IsMarked from.now on (node_by quarter from.now.grid column row) }
-{
-    let column = place_of(quarter.columns, columns_of(g), column);
-    let row = place_of(quarter.rows, rows_of(g), row);
-    is_marked_at(from, on, g, column, row)
-}
-
-/// Puts the node in this column and row of a quarter in.
-fn put_by(to: &mut Bits, g: &Grid, quarter: Quarter, column: u32, row: u32)
+/// Puts in the nodes of a row that marks reach over the columns in one direction.
+fn take_in(widths: &[u32], gaps: &[u32], to: &mut Bits, g: &Grid, across: Direction, row: u32)
     requires grid { to.old.grid ≡ g.now }
-    requires row { row < rows_in g.now }
-    requires column { column < columns g.now }
-    ensures grid { to.new.grid ≡ g.now }
-    ensures nodes { (n : Node) → Has to.new n ↔ (Has to.old n ⊎ (n ≡ node_by quarter g.now column row)) }
+    requires row { row < rows g.now }
+    requires full { length gaps.now ≡ columns g.now }
+    requires few { (k : ℕ) → k < columns g.now → slice_index gaps.now k < length widths.now }
+    ensures { GainsInRow widths.now gaps.now across g.now row (columns g.now) to.old to.new }
 {
-    let column = place_of(quarter.columns, columns_of(g), column);
-    let row = place_of(quarter.rows, rows_of(g), row);
-    put_at(to, g, column, row, true);
+    let count = columns_of(g);
+    let mut reach: u64 = 0;
+    for k in 0..count {
+        let column = place_of(across, count, k);
+        reach = reach.max(u64::from(k) + u64::from(widths[gaps[column as usize] as usize]));
+        if reach > u64::from(k) {
+            put_at(to, g, column, row, true);
+        }
+    }
 }

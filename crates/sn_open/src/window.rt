@@ -1,5 +1,5 @@
 //! The window of a grid by columns and rows, counted from its first.
-ghost use Rattle.std.specs.Prelude.{◌≡◌, ◌↔◌, ◌+◌, ◌*◌, ◌≤◌, ◌<◌, ℕ, pos, ◌+ℤ◌, ◌*ℤ◌, ◌≤ℤ◌, IsTrue};
+ghost use Rattle.std.specs.Prelude.{◌≡◌, ◌↔◌, ◌+◌, ◌*◌, ◌≤◌, ◌<◌, pos, ◌+ℤ◌, ◌*ℤ◌, ◌≤ℤ◌, IsTrue};
 ghost use Rattle.sn_geom.specs.Length.{IsLength};
 ghost use Rattle.sn_outline.specs.JobRule.{IsPitch};
 ghost use Rattle.sn_raster.specs.Grid.{Node, IsInRaw, place, places};
@@ -86,22 +86,7 @@ pub(crate) fn clear(plane: &mut Bits, g: &Grid)
     ensures grid { plane.new.grid ≡ g.now }
     ensures nodes { IsEmpty plane.new }
 {
-    for row in 0..rows_of(g) {
-        clear_row(plane, g, row);
-    }
-}
-
-/// Takes the nodes of a row out.
-fn clear_row(plane: &mut Bits, g: &Grid, row: u32)
-    requires grid { plane.old.grid ≡ g.now }
-    requires row { row < rows g.now }
-    ensures grid { plane.new.grid ≡ g.now }
-    ensures row { (column : ℕ) → column < columns g.now → ¬ Has plane.new (node_at g.now column row) }
-    ensures others { (n : Node) → Has plane.new n → Has plane.old n }
-{
-    for column in 0..columns_of(g) {
-        put_at(plane, g, column, row, false);
-    }
+    plane.clear();
 }
 
 /// Whether the node in this column and row is a raw node.

@@ -1,5 +1,5 @@
 //! Planes of nodes.
-ghost use Rattle.std.specs.Prelude.{◌≡◌, ℕ, ◌*◌, ◌<◌, ◌↔◌, ◌&&◌, false, length, slice_index_or, IsTrue, IfOk};
+ghost use Rattle.std.specs.Prelude.{◌≡◌, ℕ, ◌*◌, ◌<◌, ◌↔◌, ◌⊎◌, ◌&&◌, ◌||◌, not, false, length, slice_index_or, IsTrue, IfOk};
 ghost use Rattle.sn_raster.specs.Grid.{Node, IsInWindow, places};
 ghost use Rattle.sn_raster.specs.Plane.{Has, IsEmpty, mark_of};
 
@@ -72,6 +72,39 @@ impl Bits {
     {
         common(&mut self.marks, &a.marks, &b.marks);
     }
+
+    /// Takes all nodes out.
+    pub fn clear(&mut self)
+        ensures grid { self.new.grid ≡ self.old.grid }
+        ensures nodes { IsEmpty self.new }
+    {
+        self.marks.fill(false);
+    }
+
+    /// Makes it the plane of the nodes of the window that it lacks.
+    pub fn invert(&mut self)
+        ensures grid { self.new.grid ≡ self.old.grid }
+        ensures nodes { (n : Node) → Has self.new n ↔ (IsInWindow self.old.grid n × ¬ Has self.old n) }
+    {
+        flip(&mut self.marks);
+    }
+
+    /// Puts in the nodes that the other plane has.
+    pub fn unite(&mut self, other: &Bits)
+        requires { other.now.grid ≡ self.old.grid }
+        ensures grid { self.new.grid ≡ self.old.grid }
+        ensures nodes { (n : Node) → Has self.new n ↔ (Has self.old n ⊎ Has other.now n) }
+    {
+        add(&mut self.marks, &other.marks);
+    }
+
+    /// Makes it the plane of the nodes of the other plane.
+    pub fn copy(&mut self, other: &Bits)
+        requires { other.now.grid ≡ self.old.grid }
+        ensures { self.new ≡ other.now }
+    {
+        self.marks.copy_from_slice(&other.marks);
+    }
 }
 
 /// How many nodes the window has.
@@ -111,5 +144,27 @@ fn common(marks: &mut [bool], a: &[bool], b: &[bool])
 {
     for k in 0..marks.len() {
         marks[k] = a[k] && b[k];
+    }
+}
+
+/// Flips each mark.
+fn flip(marks: &mut [bool])
+    ensures full { length marks.new ≡ length marks.old }
+    ensures each { (k : ℕ) → k < length marks.old → slice_index_or marks.new k false ≡ not (slice_index_or marks.old k false) }
+{
+    for k in 0..marks.len() {
+        marks[k] = !marks[k];
+    }
+}
+
+/// Sets each mark where the other is set.
+fn add(marks: &mut [bool], other: &[bool])
+    requires { length other.now ≡ length marks.old }
+    ensures full { length marks.new ≡ length marks.old }
+    ensures each { (k : ℕ) → k < length marks.old
+        → slice_index_or marks.new k false ≡ slice_index_or marks.old k false || slice_index_or other.now k false }
+{
+    for k in 0..marks.len() {
+        marks[k] |= other[k];
     }
 }

@@ -14,4 +14,4 @@ pub returns-clause-nodes : goal.returns-clause-nodes
 returns-clause-nodes c =
     let rows_is = c.rows_of.ensures.value ∙ ap rows c.grid-g.ensures in
     let are = subst (λ n. AreBlockWidths n c.set_block_widths.new.widths) rows_is c.set_block_widths.ensures in
-    kept_blocks c.args.from.now c.spread.new.to c.invert.new.plane c.set_block_widths.new.widths are c.spread.ensures.grid c.spread.ensures.nodes c.invert.ensures.nodes
+    kept_blocks c.args.from.now c.spread.new.to c.invert.new.self c.set_block_widths.new.widths are c.spread.ensures.grid c.spread.ensures.nodes c.invert.ensures.nodes

@@ -11,7 +11,7 @@ returns-then-not-has_all-clause-nodes c =
     let old = c.args.plane.now in
     let near = c.add_near.new.plane in
     let is = disc_is c.nearness.ensures.one_place c.args.d c.args.centre.now allowed old near c.requires.grid c.requires.empty c.add_near.ensures.nodes in
-    without_room c.args.d c.args.centre.now allowed old near c.clear.new.plane c.requires.grid is (subst (λ (p : Plane). (m : Node) × Has near m × (¬ Has p m)) c.nodes.ensures (c.has_all.ensures.no (λ yes. false≢true (sym c.if-not-has_all.true ∙ yes)))) c.clear.ensures.nodes
+    without_room c.args.d c.args.centre.now allowed old near c.clear.new.self c.requires.grid is (subst (λ (p : Plane). (m : Node) × Has near m × (¬ Has p m)) c.nodes.ensures (c.has_all.ensures.no (λ yes. false≢true (sym c.if-not-has_all.true ∙ yes)))) c.clear.ensures.nodes
 
 pub returns-else-not-has_all-clause-nodes : goal.returns-else-not-has_all-clause-nodes
 returns-else-not-has_all-clause-nodes c =

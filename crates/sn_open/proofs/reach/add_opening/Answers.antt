@@ -14,10 +14,10 @@ pub returns-then-opens_at-clause-nodes : goal.returns-then-opens_at-clause-nodes
 returns-then-opens_at-clause-nodes c =
     let same = to_z-of_z w32 c.args.z c.ranges.z in
     let z = to_z w32 (of_z w32 c.args.z) in
-    subst (λ z. (n : Node) → Has c.unite.new.plane n ↔ (Has c.args.reached.now n ⊎ OpensAt c.args.j.now c.args.feature z c.args.step.now n)) same
-    (added_opening c.args.j.now c.args.feature z c.args.step.now c.args.reached.now c.unite.new.plane c.refill.new.self (c.opens_at.ensures.0 c.if-opens_at.true)
+    subst (λ z. (n : Node) → Has c.unite.new.self n ↔ (Has c.args.reached.now n ⊎ OpensAt c.args.j.now c.args.feature z c.args.step.now n)) same
+    (added_opening c.args.j.now c.args.feature z c.args.step.now c.args.reached.now c.unite.new.self c.refill.new.self (c.opens_at.ensures.0 c.if-opens_at.true)
     (c.refill.ensures.opening c.args.j.now c.requires.grid)
-    (subst (λ (p : Plane). (n : Node) → Has c.unite.new.plane n ↔ (Has c.args.reached.now n ⊎ Has p n)) c.nodes.ensures c.unite.ensures.nodes))
+    (subst (λ (p : Plane). (n : Node) → Has c.unite.new.self n ↔ (Has c.args.reached.now n ⊎ Has p n)) c.nodes.ensures c.unite.ensures.nodes))
 
 pub returns-else-opens_at-clause-nodes : goal.returns-else-opens_at-clause-nodes
 returns-else-opens_at-clause-nodes c =

@@ -1,4 +1,4 @@
-use Rattle.std.proofs.Common.{◌↔◌, subst, sym, ap, w32, to_z, of_z, arith, length}
+use Rattle.std.proofs.Common.{◌↔◌, subst, sym, ap, ◌∙◌, w32, to_z, of_z, arith, length}
 use Rattle.std.proofs.lemmas.Int.{to_z-of_z}
 use Rattle.sn_raster.specs.Grid.{Node}
 use Rattle.sn_raster.specs.Plane.{Has}
@@ -14,8 +14,8 @@ add_opening-requires-clause-executed c =
 pub loop-step-init : goal.loop-step-init
 loop-step-init c = record {
   opening = c.requires.opening;
-  reached = c.clear.ensures.grid;
-  opened = none_opened c.args.j.now c.args.feature (to_z w32 (of_z w32 c.args.z)) c.clear.new.plane c.clear.ensures.nodes;
+  reached = c.clear.ensures.grid ∙ c.requires.reached;
+  opened = none_opened c.args.j.now c.args.feature (to_z w32 (of_z w32 c.args.z)) c.clear.new.self c.clear.ensures.nodes;
 }
 
 pub loop-step-preserved : goal.loop-step-preserved

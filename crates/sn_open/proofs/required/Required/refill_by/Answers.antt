@@ -30,14 +30,14 @@ returns-clause-nodes c = λ job of.
     let kept_g = ap (λ a. a.plane.grid) c.dilate.ensures.allowed ∙ dilated_g in
     let bad = c.keep_raw.new.to in
     let bad_g = c.keep_raw.ensures.grid ∙ kept_g in
-    let good = c.invert-2.new.plane in
+    let good = c.invert-2.new.self in
     let good_g = c.invert-2.ensures.grid ∙ bad_g in
     let last_g = ap (λ a. a.plane.grid) c.keep_blocks.ensures.allowed ∙ kept_g in
-    required_nodes g job s near c.invert.new.plane bad good c.keep_blocks.new.to c.keep_raw-2.new.to making
+    required_nodes g job s near c.invert.new.self bad good c.keep_blocks.new.to c.keep_raw-2.new.to making
     (rounded g job s cells centres near making same are (of_grid (IsClear cells.plane s.corner) centres _ g same c.erode.ensures.nodes) centres_g
     (of_grid (IsNearOne centres s.corner) near _ g dilated_g c.dilate.ensures.nodes))
     near_g bad_g good_g c.invert.ensures.nodes
-    (subst (λ (h : Grid). (n : Node) → Has bad n ↔ (Has c.invert.new.plane n × IsInRaw h n)) kept_g c.keep_raw.ensures.nodes)
+    (subst (λ (h : Grid). (n : Node) → Has bad n ↔ (Has c.invert.new.self n × IsInRaw h n)) kept_g c.keep_raw.ensures.nodes)
     c.invert-2.ensures.nodes
     (of_grid (HasBlock good) c.keep_blocks.new.to _ g kept_g c.keep_blocks.ensures.nodes)
     (subst (λ (h : Grid). (n : Node) → Has c.keep_raw-2.new.to n ↔ (Has c.keep_blocks.new.to n × IsInRaw h n)) last_g c.keep_raw-2.ensures.nodes)

@@ -1,0 +1,9 @@
+use Rattle.std.proofs.Common.{ℕ, ◌≡◌, ◌<◌, ◌≤◌, not, false, length, get_or}
+use Rattle.sn_raster.proofs.bits.flip.Given as goal
+
+abbrev pub invariant-loop-k : goal.invariant-loop-k
+invariant-loop-k l = record {
+  full : length l.marks ≡ length l.fn.marks;
+  done : (m : ℕ) → m < l.k → get_or l.marks m false ≡ not (get_or l.fn.marks m false);
+  rest : (m : ℕ) → l.k ≤ m → get_or l.marks m false ≡ get_or l.fn.marks m false;
+}
