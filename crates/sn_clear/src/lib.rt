@@ -14,6 +14,3 @@ mod swept;
 mod window;
 
 pub use clearing::strokes;
-
-#[cfg(test)]
-mod tests;

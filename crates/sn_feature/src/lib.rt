@@ -17,6 +17,3 @@ pub use fault::StepFault;
 pub use parts::StepParts;
 pub use placement::{plane_height, read_placement, security_of};
 pub use steps::step;
-
-#[cfg(test)]
-mod tests;

@@ -14,6 +14,3 @@ pub use fault::JobFault;
 pub use jobs::job;
 pub use sn_feature::read_placement;
 pub use sn_words::{Assign, Command, Opts, RawBox, Words, values};
-
-#[cfg(test)]
-mod tests;

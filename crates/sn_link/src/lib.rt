@@ -16,6 +16,3 @@ mod step_plan;
 pub use moves::{Move, Moves, over};
 pub use planner::{PlannedStep, Plans, plan};
 pub use step_plan::{Planned, plan_step};
-
-#[cfg(test)]
-mod tests;

@@ -1,6 +1,6 @@
 //! Texts that are read, and texts that are refused at their places.
 
-use crate::{Bytes, Param, read_file, write_file, write_instances};
+use crate::{Bytes, Entity, Instances, Param, read_file, write_file, write_instances};
 use std::alloc::Global;
 use std::test::Fail;
 
@@ -11,10 +11,16 @@ const CANONICAL_OPENING: &str =
     "ISO-10303-21;\nHEADER;\nFILE_DESCRIPTION((''),'1');\nFILE_NAME();\nFILE_SCHEMA(());\n";
 
 /// The text of a file with these further header entities and these instances.
-macro_rules! text {
-    ($rt:ident, $header:expr, $rows:expr) => {
-        format!(in $rt.alloc(); "{OPENING}{}ENDSEC;DATA;{}ENDSEC;END-ISO-10303-21;", $header, $rows)?
+fn text(alloc: Global, header: &str, rows: &str) -> Result<String, Fail> {
+    Ok(format!(in alloc; "{OPENING}{header}ENDSEC;DATA;{rows}ENDSEC;END-ISO-10303-21;")?)
+}
+
+/// How many header entities and how many instances are read of the text.
+fn counts(alloc: Global, text: &[u8]) -> Result<(usize, usize), Fail> {
+    let Ok(file) = read_file(alloc, text) else {
+        return Err(Fail::from("not read"));
     };
+    Ok((file.header.len(), file.instances.len()))
 }
 
 #[test]
@@ -32,34 +38,64 @@ fn texts_are_read(rt: HostRuntime) -> Result<(), Fail> {
         ("", "#7=ENDSEC((1),#9,T(()));", 3, 1),
     ];
     for (header, instances, entities, count) in rows {
-        let text = text!(rt, header, instances);
-        let Ok(file) = read_file(rt.alloc(), text.as_bytes()) else {
-            return Err(Fail::from("not read"));
-        };
-        assert_eq!(rt; file.header.len(), entities);
-        assert_eq!(rt; file.instances.len(), count);
+        let text = text(rt.alloc(), header, instances)?;
+        assert_eq!(rt; counts(rt.alloc(), text.as_bytes())?, (entities, count));
     }
     Ok(())
 }
 
-#[test]
-fn parameters_are_read(rt: HostRuntime) -> Result<(), Fail> {
-    let text = text!(rt, "", "#5=A('x''y',T(1.5));#4=B();");
-    let Ok(file) = read_file(rt.alloc(), text.as_bytes()) else {
+/// Whether the first instance is `#5`, and `#4` is found by its number.
+fn are_numbered(instances: &Instances) -> bool {
+    let Some(first) = instances.at(0) else {
+        return false;
+    };
+    let Some(second) = instances.get(4) else {
+        return false;
+    };
+    first.number == 5 && second.number == 4
+}
+
+/// Whether the first parameter of the entity is this string.
+fn begins_with(entity: &Entity, text: &[u8]) -> bool {
+    let Some(Param::Text(value)) = entity.params.get(0) else {
+        return false;
+    };
+    value.as_slice() == text
+}
+
+/// Whether the first instance is one entity of this keyword whose first parameter is this string.
+fn is_first(instances: &Instances, keyword: &[u8], text: &[u8]) -> bool {
+    let Some(first) = instances.at(0) else {
+        return false;
+    };
+    let Some(entity) = first.parts.get(0) else {
+        return false;
+    };
+    entity.keyword.as_slice() == keyword && begins_with(entity, text)
+}
+
+/// The lines of the instances of the text that is read, where they are those of `parameters_are_read`.
+fn lines(alloc: Global, text: &[u8]) -> Result<Bytes, Fail> {
+    let Ok(file) = read_file(alloc, text) else {
         return Err(Fail::from("not read"));
     };
-    let first = file.instances.at(0).ok_or("no first")?;
-    assert_eq!(rt; first.number, 5);
-    assert_eq!(rt; file.instances.get(4).ok_or("no 4")?.number, 4);
-    let entity = first.parts.get(0).ok_or("no part")?;
-    assert_eq!(rt; entity.keyword.as_slice(), b"A".as_slice());
-    let Some(Param::Text(value)) = entity.params.get(0) else {
-        return Err(Fail::from("no string"));
-    };
-    assert_eq!(rt; value.as_slice(), b"x'y".as_slice());
-    let Ok(lines) = write_instances(rt.alloc(), &file.instances) else {
+    lines_of(alloc, &file.instances)
+}
+
+fn lines_of(alloc: Global, instances: &Instances) -> Result<Bytes, Fail> {
+    if !are_numbered(instances) || !is_first(instances, b"A", b"x'y") {
+        return Err(Fail::from("other instances"));
+    }
+    let Ok(lines) = write_instances(alloc, instances) else {
         return Err(Fail::from("not written"));
     };
+    Ok(lines)
+}
+
+#[test]
+fn parameters_are_read(rt: HostRuntime) -> Result<(), Fail> {
+    let text = text(rt.alloc(), "", "#5=A('x''y',T(1.5));#4=B();")?;
+    let lines = lines(rt.alloc(), text.as_bytes())?;
     assert_eq!(rt;
         lines.as_slice(),
         b"#5=A('x''y',T(1.5));\n#4=B();\n".as_slice()
@@ -79,7 +115,7 @@ fn written(alloc: Global, text: &[u8]) -> Result<Bytes, Fail> {
 }
 
 /// Further header entities and instances, and the lines in which each of the two is written.
-const WRITTEN: [(&str, &str, &str, &str); 10] = [
+const WRITTEN: &[(&str, &str, &str, &str)] = &[
     ("", "", "", ""),
     (
         "OWN ( 'a' ) ;",
@@ -137,14 +173,24 @@ const WRITTEN: [(&str, &str, &str, &str); 10] = [
     ),
 ];
 
+/// What is written of the file with these further header entities and these instances.
+fn canonical(alloc: Global, header: &str, instances: &str) -> Result<Bytes, Fail> {
+    let text = text(alloc, header, instances)?;
+    written(alloc, text.as_bytes())
+}
+
+/// The canonical text with these lines.
+fn canonical_text(alloc: Global, header: &str, lines: &str) -> Result<String, Fail> {
+    Ok(format!(in alloc;
+        "{CANONICAL_OPENING}{header}ENDSEC;\nDATA;\n{lines}ENDSEC;\nEND-ISO-10303-21;\n"
+    )?)
+}
+
 #[test]
 fn texts_are_written(rt: HostRuntime) -> Result<(), Fail> {
     for (header, instances, header_lines, lines) in WRITTEN {
-        let text = text!(rt, header, instances);
-        let expected = format!(in rt.alloc();
-            "{CANONICAL_OPENING}{header_lines}ENDSEC;\nDATA;\n{lines}ENDSEC;\nEND-ISO-10303-21;\n"
-        )?;
-        let canonical = written(rt.alloc(), text.as_bytes())?;
+        let expected = canonical_text(rt.alloc(), header_lines, lines)?;
+        let canonical = canonical(rt.alloc(), header, instances)?;
         assert_eq!(rt; canonical.as_slice(), expected.as_bytes());
         let again = written(rt.alloc(), canonical.as_slice())?;
         assert_eq!(rt; again.as_slice(), canonical.as_slice());
@@ -155,48 +201,57 @@ fn texts_are_written(rt: HostRuntime) -> Result<(), Fail> {
 /// A text up to its instances, of 77 bytes.
 const FRONT: &str = "ISO-10303-21;HEADER;FILE_DESCRIPTION();FILE_NAME();FILE_SCHEMA();ENDSEC;DATA;";
 
-/// An instance up to its 64th list, of 68 bytes.
-const LISTS: &str = "#1=A((((((((((((((((((((((((((((((((((((((((((((((((((((((((((((((((";
+/// The same with an instance up to its 64th list, of 145 bytes.
+const DEEP: &str = concat!(
+    "ISO-10303-21;HEADER;FILE_DESCRIPTION();FILE_NAME();FILE_SCHEMA();ENDSEC;DATA;",
+    "#1=A(((((((((((((((((((((((((((((((((((((((((((((((((((((((((((((((("
+);
+
+/// The fault of the text of two parts.
+fn told(alloc: Global, front: &str, rest: &str) -> Result<String, Fail> {
+    let text = format!(in alloc; "{front}{rest}")?;
+    let Err(fault) = read_file(alloc, text.as_bytes()) else {
+        return Err(Fail::from("read"));
+    };
+    Ok(format!(in alloc; "{fault:?}")?)
+}
+
+/// The two parts of a text, and its fault.
+const REFUSED: &[(&str, &str, &str)] = &[
+    ("", "", "Unexpected(0)"),
+    ("ISO-10303-21; ", "", "Unexpected(14)"),
+    (
+        "ISO-10303-21;HEADER;FILE_DESCRIPTION(('a",
+        "",
+        "Lex(OpenString(38))",
+    ),
+    (
+        "ISO-10303-21;HEADER;FILE_DESCRIPTION();FILE_NAME();",
+        "ENDSEC;",
+        "Unexpected(51)",
+    ),
+    (
+        "ISO-10303-21;HEADER;FILE_DESCRIPTION();FILE_NAME();FILE_SCHEMA();",
+        "DATA;",
+        "Unexpected(69)",
+    ),
+    (FRONT, "#1=A(1,);", "Unexpected(84)"),
+    (FRONT, "#1=A(T(1,2));", "Unexpected(85)"),
+    (FRONT, "#1=( );", "Unexpected(82)"),
+    (FRONT, "#1=A();#01", "Twice(1, 84)"),
+    (FRONT, "#1=A();#01=B();", "Twice(1, 84)"),
+    (FRONT, "ENDSEC;END-ISO-10303-21; ;", "Unexpected(102)"),
+    (DEEP, "(", "TooDeep(145)"),
+    (DEEP, "A(", "TooDeep(146)"),
+    (DEEP, "A)", "Unexpected(146)"),
+    (DEEP, "A", "Unexpected(146)"),
+];
 
 #[test]
 fn texts_are_refused(rt: HostRuntime) -> Result<(), Fail> {
-    let deep = format!(in rt.alloc(); "{FRONT}{LISTS}")?;
-    let rows = [
-        ("", "", "Unexpected(0)"),
-        ("ISO-10303-21; ", "", "Unexpected(14)"),
-        (
-            "ISO-10303-21;HEADER;FILE_DESCRIPTION(('a",
-            "",
-            "Lex(OpenString(38))",
-        ),
-        (
-            "ISO-10303-21;HEADER;FILE_DESCRIPTION();FILE_NAME();",
-            "ENDSEC;",
-            "Unexpected(51)",
-        ),
-        (
-            "ISO-10303-21;HEADER;FILE_DESCRIPTION();FILE_NAME();FILE_SCHEMA();",
-            "DATA;",
-            "Unexpected(69)",
-        ),
-        (FRONT, "#1=A(1,);", "Unexpected(84)"),
-        (FRONT, "#1=A(T(1,2));", "Unexpected(85)"),
-        (FRONT, "#1=( );", "Unexpected(82)"),
-        (FRONT, "#1=A();#01", "Twice(1, 84)"),
-        (FRONT, "#1=A();#01=B();", "Twice(1, 84)"),
-        (FRONT, "ENDSEC;END-ISO-10303-21; ;", "Unexpected(102)"),
-        (deep.as_str(), "(", "TooDeep(145)"),
-        (deep.as_str(), "A(", "TooDeep(146)"),
-        (deep.as_str(), "A)", "Unexpected(146)"),
-        (deep.as_str(), "A", "Unexpected(146)"),
-    ];
-    for (front, rest, expected) in rows {
-        let text = format!(in rt.alloc(); "{front}{rest}")?;
-        let Err(fault) = read_file(rt.alloc(), text.as_bytes()) else {
-            return Err(Fail::from("read"));
-        };
-        let told = format!(in rt.alloc(); "{fault:?}")?;
-        assert_eq!(rt; told.as_str(), expected);
+    for (front, rest, expected) in REFUSED {
+        let told = told(rt.alloc(), front, rest)?;
+        assert_eq!(rt; told.as_str(), *expected);
     }
     Ok(())
 }

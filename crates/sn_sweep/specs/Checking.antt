@@ -1,5 +1,5 @@
 -- MEANING: what a checker keeps of the program that it reads (this project's own).
-use Rattle.std.specs.Prelude.{◌≡◌, ◌≢◌, ◌↔◌, ◌⊎◌, ℕ, ◌+◌, Bool, IsTrue, List, [], ◌∷◌, ◌++◌, length, take, Contains, Option, None, Some}
+use Rattle.std.specs.Prelude.{◌≡◌, ◌≢◌, ◌↔◌, ℕ, Bool, IsTrue, List, ◌++◌, length, take, Contains, Option, None, Some}
 use Rattle.std.specs.List.{All}
 use Rattle.sn_geom.specs.Acts.{Act}
 use Rattle.sn_geom.specs.Acts.Act.{End}

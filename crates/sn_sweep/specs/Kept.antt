@@ -3,7 +3,6 @@ use Rattle.std.specs.Prelude.{◌≡◌, ◌<◌, ◌≤◌, ◌^◌, List, [], 
 use Rattle.sn_outline.specs.declared.job.StepJob.{StepJob}
 use Rattle.sn_raster.specs.Grid.{Grid, IsGridOf}
 use Rattle.sn_open.specs.Planes.{CellSet}
-use Rattle.sn_sweep.specs.Checking.{most_held}
 use Rattle.sn_sweep.specs.declared.planes.Planes.{Planes}
 use Rattle.sn_sweep.specs.declared.checker.Checker.TheInside.{Inside}
 

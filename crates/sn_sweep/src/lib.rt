@@ -14,6 +14,3 @@ mod planes;
 
 pub use checker::Checker;
 pub use sn_open::{Cause, Verdict};
-
-#[cfg(test)]
-mod tests;

@@ -1,10 +1,9 @@
 //! The strokes of a rectangular pocket, node by node.
 ghost use Rattle.std.specs.Prelude.{◌≡◌, IfOk};
 
-use super::*;
-use crate::window::{columns_of, put_at, rows_of};
+use sn_clear::strokes;
 use sn_geom::{Body, Pt, Pt3, Um};
-use sn_open::{Centres, Strokes};
+use sn_open::{Centres, Strokes, columns_of, put_at, rows_of};
 use sn_outline::{Bottom, Job, Numbers, Outline, Shape, Shapes, StepJob, Steps, Way};
 use sn_raster::{Big, Bits, Grid};
 use std::alloc::Global;

@@ -2,7 +2,7 @@ use Rattle.std.proofs.Common.{◌<◌, ◌∙◌, length, sym, subst, arith}
 use Rattle.std.proofs.lemmas.Bool.{eqb-false}
 use Rattle.std.specs.List.{All}
 use Rattle.sn_outline.specs.JobRule.{IsProper}
-use Rattle.sn_clear.proofs.tests.strokes_of.Goals as goal
+use Rattle.sn_tests.proofs.clear.strokes_of.Goals as goal
 
 pub strokes-requires-clause-step : goal.strokes-requires-clause-step
 strokes-requires-clause-step c =

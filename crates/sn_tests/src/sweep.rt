@@ -2,10 +2,10 @@
 ghost use Rattle.std.specs.Prelude.{◌≡◌, ◌+◌, ◌<◌, [], length, IfOk};
 ghost use Rattle.sn_raster.specs.Grid.{IsGridOf};
 
-use super::*;
 use sn_geom::{Body, Pt, Pt3, Um};
 use sn_outline::{Bottom, Job, Numbers, Outline, Shape, Shapes, StepJob, Steps, Way};
 use sn_raster::{Big, Grid};
+use sn_sweep::{Cause, Checker, Verdict};
 use std::alloc::Global;
 use std::test::Fail;
 

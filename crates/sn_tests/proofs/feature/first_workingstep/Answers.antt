@@ -2,7 +2,7 @@ use Rattle.std.proofs.Common.{◌≡◌, ◌<◌, ◌∙◌, Some, ap, inl, refl
 use Rattle.std.proofs.lemmas.Bool.Decides.{nat_tests}
 use Rattle.std.proofs.lemmas.List.Elements.{Contains-get_or}
 use Rattle.sn_entity.specs.declared.row.RowId.TheVariants.{MachiningWorkingstep}
-use Rattle.sn_feature.proofs.tests.first_workingstep.Goals as goal
+use Rattle.sn_tests.proofs.feature.first_workingstep.Goals as goal
 
 pub fields-requires : goal.fields-requires
 fields-requires c =

@@ -2,8 +2,8 @@
 ghost use Rattle.std.specs.Prelude.{IfSome};
 ghost use Rattle.sn_refs.specs.Target.{IsTarget};
 
-use crate::{StepFault, StepParts, plane_height, read_placement, security_of, step};
 use sn_entity::{Group, RowId};
+use sn_feature::{StepFault, StepParts, plane_height, read_placement, security_of, step};
 use sn_frame::{Frame, FrameFault};
 use sn_geom::{Body, Pt};
 use sn_model::{build, project_has_row};

@@ -1,0 +1,17 @@
+//! Tests of the public calls of the libraries, in one crate so that the gate proves each library once.
+#![tactic(auto)]
+
+#[cfg(test)]
+mod clear;
+#[cfg(test)]
+mod feature;
+#[cfg(test)]
+mod flow;
+#[cfg(test)]
+mod link;
+#[cfg(test)]
+mod open;
+#[cfg(test)]
+mod report;
+#[cfg(test)]
+mod sweep;
