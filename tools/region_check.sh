@@ -359,8 +359,8 @@ def compare(kind, file):
     return failed
 
 
-def pocket(profile):
-    """A part of 391.8 mm by 391.8 mm, with a pocket of this boundary about its middle, and a tool of 8 mm."""
+def pocket(profile, size=391.8):
+    """A part of so many millimetres each way, with a pocket of this boundary about its middle, and a tool of 8 mm."""
     lines = """#1=CARTESIAN_POINT('',(0.,0.,20.));
 #2=AXIS2_PLACEMENT_3D('',#1,$,$);
 #3=PLANE('',#2);
@@ -387,15 +387,22 @@ def pocket(profile):
 #25=CARTESIAN_POINT('',(0.,0.,-5.));
 #26=MILLING_TOOL_DIMENSION(8.,$,$,20.,$,$,$);
 """
+    lines = lines.replace("391.8,391.8", f"{size:.2f},{size:.2f}").replace("195.9,195.9", f"{size / 2:.3f},{size / 2:.3f}")
     head = "ISO-10303-21;\nHEADER;\nFILE_DESCRIPTION((''),'1');\nFILE_NAME('','',(''),(''),'','','');\nFILE_SCHEMA(('MACHINING_SCHEMA'));\nENDSEC;\nDATA;\n"
     return head + lines + profile + "ENDSEC;\nEND-ISO-10303-21;\n"
 
 
-def rectangle():
-    return """#18=RECTANGULAR_CLOSED_PROFILE(#13,#27,#28);
-#27=TOLERANCED_LENGTH_MEASURE(389.8,$);
-#28=TOLERANCED_LENGTH_MEASURE(389.8,$);
+def rectangle(size=391.8):
+    """A rectangle 1 mm within the part."""
+    return f"""#18=RECTANGULAR_CLOSED_PROFILE(#13,#27,#28);
+#27=TOLERANCED_LENGTH_MEASURE({size - 2:.2f},$);
+#28=TOLERANCED_LENGTH_MEASURE({size - 2:.2f},$);
 """
+
+
+def across(pitch):
+    """The size of a part whose window is 2,000 nodes across at a pitch in micrometres, with a tool of 8 mm."""
+    return 1999 * pitch / 1000 - 8
 
 
 def polygon(corners):
@@ -414,8 +421,9 @@ def comb():
 
 
 def speed():
-    for name, profile in (("a rectangle", rectangle()), ("a comb of 30 teeth", comb())):
-        lines = told(pocket(profile), "0", ["part", "--cell", "200"])
+    squares = [(f"a rectangle at {pitch} um", pocket(rectangle(across(pitch)), across(pitch)), pitch) for pitch in (20, 200, 1000)]
+    for name, text, pitch in [*squares, ("a comb of 30 teeth at 200 um", pocket(comb()), 200)]:
+        lines = told(text, "0", ["part", "--cell", str(pitch)])
         times = [line.removeprefix("time ").split() for line in lines if line.startswith("time ") and "targets" not in line]
         counts = [line for line in lines if line.split()[0] in ("allowed", "centres", "opening", "required", "targets")]
         if not times:

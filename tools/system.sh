@@ -39,6 +39,7 @@ has_output() {
     program) cmp -s "$sample_text" "$folder/out" ;;
     nothing) [ ! -s "$folder/out" ] ;;
     @*) cmp -s "${1#@}" "$folder/out" ;;
+    ^*) [ "$(head -n 1 "$folder/out")" == "${1#^}" ] ;;
     *) grep -qxF -- "$1" "$folder/out" ;;
   esac
 }
@@ -53,7 +54,7 @@ has_errors() {
 }
 
 # wants NAME STATUS OUTPUT ERRORS: compares what the last run did. OUTPUT is `program`, the text of the sample part's
-# program, or `nothing`, or @FILE, the text of a file, or a line that the output has.
+# program, or `nothing`, or @FILE, the text of a file, or ^LINE, the first line, or a line that the output has.
 wants() {
   if [ "$status" -eq "$2" ] && has_output "$3" && has_errors "$4"; then
     passed=$((passed + 1))
@@ -279,6 +280,62 @@ check_plate() {
   wants 'the plate without its box' 1 nothing 'stepmill: part: raw box unknown'
 }
 
+# The counts of a part are told where its program is written, and else it is refused as `compile` refuses it.
+check_reports() {
+  run report "$plate" --raw "$plate_box"
+  {
+    printf 'steps 4\ngrid 441 281\n'
+    printf 'ws 10 tool 1 strokes 15 layers 1 lifts 1 cells 193282000\n'
+    printf 'ws 11 tool 2 strokes 1 layers 1 lifts 1 cells 25140000\n'
+    printf 'ws 13 tool 1 strokes 8 layers 2 lifts 2 cells 152137500\n'
+    printf 'ws 14 tool 1 strokes 7 layers 1 lifts 1 cells 19262500\n'
+  } > "$folder/plate.txt"
+  wants 'the counts of the plate' 0 "@$folder/plate.txt" ''
+  run report "$plate"
+  wants 'the counts of the plate without its box' 1 nothing 'stepmill: part: raw box unknown'
+  printf 'steps 1\ngrid 29 29\nws 4 tool 1 strokes 1 layers 1 lifts 1 cells 294000\n' > "$folder/sample.txt"
+  run report "$sample" --cell 1000
+  wants 'the counts of the sample part' 0 "@$folder/sample.txt" ''
+  timeout 120 "$program" report /dev/stdin --cell 1000 < "$sample" > "$folder/out" 2> "$folder/err"
+  status=$?
+  wants 'the counts of a part from standard input' 0 "@$folder/sample.txt" ''
+  sed 's/(#4)/(#4,#4)/' "$sample" > "$folder/again.stp"
+  run report "$folder/again.stp" --cell 1000
+  wants 'the counts of a step that finds nothing left' 0 'ws 4 tool 1 strokes 0 layers 0 lifts 0 cells 0' ''
+  run report "$folder/thin.stp" --cell 1000
+  wants 'the counts where a tool does not reach all' 7 nothing 'stepmill: uncovered #8 i 10 j 9 z 4000'
+  run report "$sample" --cell 2000
+  wants 'the counts on a coarse grid' 1 nothing 'stepmill: part: #8 too small for the grid'
+  run report /dev/null --cell 1000
+  wants 'the counts of a part of no bytes' 1 nothing 'stepmill: part: unexpected at 0'
+  run report "$folder/missing.stp" --cell 1000
+  wants 'the counts of a missing part' 3 nothing 'stepmill: read fault'
+}
+
+# The part that is generated from a number, and its counts: `trial` tells what `report` tells of the file of `make`.
+check_generated() {
+  local seed made=$folder/made.stp
+  run make 0
+  wants 'the first depth of the part of 0' 0 "#105=CARTESIAN_POINT('',(0.,0.,-3.));" ''
+  wants 'the first length of the part of 0' 0 '#108=TOLERANCED_LENGTH_MEASURE(8.,$);' ''
+  cp "$folder/out" "$made"
+  run make 0000
+  wants 'a number with leading zeros' 0 "@$made" ''
+  timeout 120 "$program" make 0 <&- 2> "$folder/err" | timeout 120 "$program" compile /dev/stdin > "$folder/out" 2>> "$folder/err"
+  status=$?
+  wants 'the program of the part of 0' 0 'M2' ''
+  for seed in 0 1 4294967295; do
+    run make "$seed"
+    cp "$folder/out" "$made"
+    wants "the part of $seed" 0 '^ISO-10303-21;' ''
+    run trial "$seed"
+    cp "$folder/out" "$folder/trial.txt"
+    wants "the counts of the part of $seed" 0 "^steps $(grep -c '=MACHINING_WORKINGSTEP(' "$made")" ''
+  done
+  run report "$made"
+  wants 'the counts of the file of the last number' 0 "@$folder/trial.txt" ''
+}
+
 # verdict NAME STATUS LINE EDIT..: the sample part's program, changed by edits of sed, has this verdict.
 verdict() {
   local edit edits=()
@@ -350,7 +407,7 @@ check_fronts() {
 
 # Words are taken as they are given: none is trimmed.
 check_words() {
-  local word
+  local word command
   for word in compile\  \ compile Compile ''; do
     run "$word" "$sample" --cell 1000
     wants "the word '$word' for the command" 2 nothing 'stepmill: word 1'
@@ -369,9 +426,29 @@ check_words() {
   done
   run compile "$sample" --cell 1000 ''
   wants 'a word too many' 2 nothing 'stepmill: word 5'
-  for word in report make trial; do
-    run "$word" "$sample" --cell 1000
-    wants "the command $word, which is not built yet" 2 nothing 'stepmill: word 1'
+  run report
+  wants 'report without a part' 2 nothing 'stepmill: word 2'
+  run report --cell 1000
+  wants 'report with an option for its part' 2 nothing 'stepmill: word 2'
+  run report "$sample" "$sample"
+  wants 'report of two parts' 2 nothing 'stepmill: word 3'
+  run report "$sample" --cell
+  wants 'report with a pitch left out' 2 nothing 'stepmill: word 4'
+  run report "$sample" --cell 1000 --cell 1000
+  wants 'report with a pitch given twice' 2 nothing 'stepmill: word 5'
+  run report "$sample" --raw 0,0,0,20,20,10 --raw 0,0,0,20,20,10
+  wants 'report with a raw box given twice' 2 nothing 'stepmill: word 5'
+  for command in make trial; do
+    run "$command"
+    wants "$command without a number" 2 nothing 'stepmill: word 2'
+    for word in x '' -1 +1 ' 1' 1.0 4294967296 18446744073709551616 "$sample"; do
+      run "$command" "$word"
+      wants "$command with the number '$word'" 2 nothing 'stepmill: word 2'
+    done
+    for word in 1 A=1 --cell ''; do
+      run "$command" 0 "$word" 1000
+      wants "$command with the word '$word' behind its number" 2 nothing 'stepmill: word 3'
+    done
   done
   run compile "$sample"
   wants 'no options' 0 program ''
@@ -454,16 +531,23 @@ check_chunks() {
   wants 'a pipe that ends early' 1 nothing 'stepmill: part: unexpected at 1000'
 }
 
+# lose_output WORD..: the output of the program on these words is a full device, and then a closed one.
+lose_output() {
+  empty_streams
+  timeout 120 "$program" "$@" > /dev/full 2> "$folder/err"
+  status=$?
+  wants "the output of $1 on a full device" 4 nothing ''
+  empty_streams
+  timeout 120 "$program" "$@" >&- 2> "$folder/err"
+  status=$?
+  wants "a closed output of $1" 4 nothing ''
+}
+
 # Of an output that cannot be written the status alone tells.
 check_outputs() {
-  empty_streams
-  timeout 120 "$program" compile "$sample" --cell 1000 > /dev/full 2> "$folder/err"
-  status=$?
-  wants 'the output on a full device' 4 nothing ''
-  empty_streams
-  timeout 120 "$program" compile "$sample" --cell 1000 >&- 2> "$folder/err"
-  status=$?
-  wants 'a closed output' 4 nothing ''
+  lose_output compile "$sample" --cell 1000
+  lose_output report "$sample" --cell 1000
+  lose_output make 0
   empty_streams
   exec 9> >(true)
   wait $!
@@ -510,6 +594,8 @@ check_lengths() {
   padded $((longest + 1)) > "$folder/part.stp"
   run compile "$folder/part.stp" --cell 1000
   wants 'a part of a byte more' 8 nothing 'stepmill: too long'
+  run report "$folder/part.stp" --cell 1000
+  wants 'the counts of a part of a byte more' 8 nothing 'stepmill: too long'
   rm "$folder/part.stp"
   run compile /dev/zero --cell 1000
   wants 'a part without an end' 8 nothing 'stepmill: too long'
@@ -606,6 +692,8 @@ for program in "$@"; do
   check_slot
   check_drill
   check_plate
+  check_reports
+  check_generated
   check_verdicts
   check_fronts
   check_words
