@@ -6,6 +6,8 @@ mod clear;
 #[cfg(test)]
 mod feature;
 #[cfg(test)]
+mod fixtures;
+#[cfg(test)]
 mod flow;
 #[cfg(test)]
 mod link;
