@@ -4,6 +4,8 @@
 #[cfg(test)]
 mod clear;
 #[cfg(test)]
+mod entity;
+#[cfg(test)]
 mod feature;
 #[cfg(test)]
 mod fixtures;
@@ -14,6 +16,12 @@ mod link;
 #[cfg(test)]
 mod open;
 #[cfg(test)]
+mod outline;
+#[cfg(test)]
+mod p21;
+#[cfg(test)]
 mod report;
 #[cfg(test)]
 mod sweep;
+#[cfg(test)]
+mod words;
