@@ -14,14 +14,20 @@ mod flow;
 #[cfg(test)]
 mod link;
 #[cfg(test)]
+mod model;
+#[cfg(test)]
 mod open;
 #[cfg(test)]
 mod outline;
 #[cfg(test)]
 mod p21;
 #[cfg(test)]
+mod refs;
+#[cfg(test)]
 mod report;
 #[cfg(test)]
 mod sweep;
+#[cfg(test)]
+mod walk;
 #[cfg(test)]
 mod words;
