@@ -2,6 +2,8 @@
 #![tactic(auto)]
 
 #[cfg(test)]
+mod block;
+#[cfg(test)]
 mod clear;
 #[cfg(test)]
 mod entity;
@@ -12,7 +14,15 @@ mod fixtures;
 #[cfg(test)]
 mod flow;
 #[cfg(test)]
+mod frame;
+#[cfg(test)]
+mod gwrite;
+#[cfg(test)]
+mod lex;
+#[cfg(test)]
 mod link;
+#[cfg(test)]
+mod machine;
 #[cfg(test)]
 mod model;
 #[cfg(test)]
