@@ -10,19 +10,27 @@ mod entity;
 #[cfg(test)]
 mod feature;
 #[cfg(test)]
+mod fit;
+#[cfg(test)]
 mod fixtures;
 #[cfg(test)]
 mod flow;
 #[cfg(test)]
 mod frame;
 #[cfg(test)]
+mod geom;
+#[cfg(test)]
 mod gwrite;
+#[cfg(test)]
+mod io;
 #[cfg(test)]
 mod lex;
 #[cfg(test)]
 mod link;
 #[cfg(test)]
 mod machine;
+#[cfg(test)]
+mod message;
 #[cfg(test)]
 mod model;
 #[cfg(test)]
