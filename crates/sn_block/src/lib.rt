@@ -14,6 +14,3 @@ mod word;
 
 pub use line::read_line;
 pub use sn_geom::{Block, LineFault, LineWords, Word};
-
-#[cfg(test)]
-mod tests;

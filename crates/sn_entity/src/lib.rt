@@ -13,8 +13,6 @@ mod refusal;
 mod row;
 mod shown;
 mod table;
-#[cfg(test)]
-mod tests;
 mod value;
 
 pub use fault::EntFault;

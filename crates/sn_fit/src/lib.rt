@@ -9,6 +9,3 @@ mod trail;
 
 pub use drill::drill_strokes;
 pub use trail::trail_strokes;
-
-#[cfg(test)]
-mod tests;

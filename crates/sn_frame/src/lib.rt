@@ -8,6 +8,3 @@ mod place;
 
 pub use direction::{Axis, Direction, Sign};
 pub use frame::{Frame, FrameFault};
-
-#[cfg(test)]
-mod tests;

@@ -219,6 +219,3 @@ pub fn one_rounding()
     ensures fraction { RoundsToOne }
     ensures product { ScalesToOne }
 {}
-
-#[cfg(test)]
-mod tests;

@@ -103,6 +103,3 @@ fn squared(n: u32) -> u64
 {
     u64::from(n) * u64::from(n)
 }
-
-#[cfg(test)]
-mod tests;

@@ -13,8 +13,6 @@ mod mem_files;
 mod mem_sink;
 mod out_sink;
 mod sink;
-#[cfg(test)]
-mod tests;
 
 pub use count_sink::CountSink;
 pub use disk_files::DiskFiles;

@@ -46,6 +46,3 @@ pub fn next_token(bytes: &[u8], at: usize) -> Result<(Token, Span), LexFault>
         },
     ))
 }
-
-#[cfg(test)]
-mod tests;

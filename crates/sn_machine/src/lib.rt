@@ -9,6 +9,3 @@ mod words;
 
 pub use machine::Machine;
 pub use sn_geom::{Acts, Block, MachFault, Motion};
-
-#[cfg(test)]
-mod tests;

@@ -3,8 +3,6 @@
 
 mod message;
 mod refusal;
-#[cfg(test)]
-mod tests;
 mod verdict_message;
 
 pub use message::write_refusal;

@@ -18,6 +18,3 @@ pub use limits::{MOST_POINTS, MOST_STEPS};
 pub use membership::inside;
 pub use outline::{Outline, Points, Shape, Shapes};
 pub use proper::{is_proper, tip_floor};
-
-#[cfg(test)]
-mod tests;

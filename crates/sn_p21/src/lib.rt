@@ -17,6 +17,3 @@ pub use laws::{numbers_have_text, reads_canonical};
 pub use limits::MAX_OPEN_LISTS;
 pub use read::{one_fault, one_file, read_file};
 pub use write::{write_file, write_instances};
-
-#[cfg(test)]
-mod tests;

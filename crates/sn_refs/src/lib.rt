@@ -10,6 +10,3 @@ mod walk;
 
 pub use checked::{Checked, check};
 pub use fault::RefFault;
-
-#[cfg(test)]
-mod tests;

@@ -1,32 +1,14 @@
 //! The strokes of a rectangular pocket, node by node.
 ghost use Rattle.std.specs.Prelude.{◌≡◌, IfOk};
 
+use crate::fixtures::{pt, pt3};
 use sn_clear::strokes;
-use sn_geom::{Body, Pt, Pt3, Um};
+use sn_geom::Body;
 use sn_open::{Centres, Strokes, columns_of, put_at, rows_of};
 use sn_outline::{Bottom, Job, Numbers, Outline, Shape, Shapes, StepJob, Steps, Way};
 use sn_raster::{Big, Bits, Grid};
 use std::alloc::Global;
 use std::test::Fail;
-
-fn um(v: i32) -> Result<Um, Fail> {
-    Ok(Um::new(v).ok_or("out of range")?)
-}
-
-fn pt(x: i32, y: i32) -> Result<Pt, Fail> {
-    Ok(Pt {
-        x: um(x)?,
-        y: um(y)?,
-    })
-}
-
-fn pt3(x: i32, y: i32, z: i32) -> Result<Pt3, Fail> {
-    Ok(Pt3 {
-        x: um(x)?,
-        y: um(y)?,
-        z: um(z)?,
-    })
-}
 
 /// A job of one clearing step: a pocket over columns 3 to 9 and rows 3 to 12, with a border of one raw node around it.
 ///

@@ -2,14 +2,14 @@
 ghost use Rattle.std.specs.Prelude.{IfSome};
 ghost use Rattle.sn_refs.specs.Target.{IsTarget};
 
+use crate::fixtures::{Change, changed_text, checked_of};
 use sn_entity::{Group, RowId};
 use sn_feature::{StepFault, StepParts, plane_height, read_placement, security_of, step};
 use sn_frame::{Frame, FrameFault};
 use sn_geom::{Body, Pt};
-use sn_model::{build, project_has_row};
+use sn_model::project_has_row;
 use sn_outline::{Bottom, Shape, Way};
-use sn_p21::read_file;
-use sn_refs::{Checked, check};
+use sn_refs::Checked;
 use std::alloc::Global;
 use std::test::Fail;
 
@@ -80,38 +80,10 @@ const INSTANCES: [(u32, &str); 50] = [
     ),
 ];
 
-type Change = (u32, &'static str);
-
-/// What stands for an instance.
-fn changed(number: u32, instance: &'static str, changes: &[Change]) -> &'static str {
-    for (other, text) in changes {
-        if *other == number {
-            return text;
-        }
-    }
-    instance
-}
-
 /// The part with these changes.
 fn part(alloc: Global, changes: &[Change]) -> Result<Checked, Fail> {
-    let mut text = format!(in alloc;
-        "ISO-10303-21;HEADER;FILE_DESCRIPTION((''),'1');FILE_NAME();FILE_SCHEMA(());ENDSEC;DATA;"
-    )?;
-    for (number, instance) in INSTANCES {
-        let line = format!(in alloc; "#{}={};", number, changed(number, instance, changes))?;
-        text.push_str(line.as_str())?;
-    }
-    text.push_str("ENDSEC;END-ISO-10303-21;")?;
-    let Ok(file) = read_file(alloc, text.as_bytes()) else {
-        return Err(Fail::from("not read"));
-    };
-    let Ok(model) = build(alloc, &file) else {
-        return Err(Fail::from("no model"));
-    };
-    let Ok(checked) = check(alloc, model) else {
-        return Err(Fail::from("not sound"));
-    };
-    Ok(checked)
+    let text = changed_text(alloc, &INSTANCES, changes)?;
+    checked_of(alloc, text.as_bytes())
 }
 
 /// The first element of the main workplan, where it is a workingstep.

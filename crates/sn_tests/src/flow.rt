@@ -1,12 +1,11 @@
 //! Jobs of the sample part with one hole, and of parts that differ from it in a few instances.
 
+use crate::fixtures::{Change, changed_text, checked_of};
 use sn_flow::{JobFault, Opts, Words, job, values};
 use sn_frame::FrameFault;
 use sn_geom::Pt3;
-use sn_model::{Model, build};
 use sn_outline::{Job, Shape, StepJob};
-use sn_p21::read_file;
-use sn_refs::{Checked, check};
+use sn_refs::Checked;
 use std::alloc::Global;
 use std::test::Fail;
 
@@ -39,50 +38,10 @@ const INSTANCES: [(u32, &str); 25] = [
     (25, "MILLING_TOOL_DIMENSION(8.,$,$,20.,0.,$,$)"),
 ];
 
-/// What stands for an instance, or for it and further ones.
-type Change = (u32, &'static str);
-
-/// What stands for an instance.
-fn changed(number: u32, instance: &'static str, changes: &[Change]) -> &'static str {
-    for (other, text) in changes {
-        if *other == number {
-            return text;
-        }
-    }
-    instance
-}
-
-/// The text of the sample part with these changes.
-fn text_of(alloc: Global, changes: &[Change]) -> Result<String, Fail> {
-    let mut text = format!(in alloc;
-        "ISO-10303-21;HEADER;FILE_DESCRIPTION((''),'1');FILE_NAME();FILE_SCHEMA(());ENDSEC;DATA;"
-    )?;
-    for (number, instance) in INSTANCES {
-        let line = format!(in alloc; "#{}={};", number, changed(number, instance, changes))?;
-        text.push_str(line.as_str())?;
-    }
-    text.push_str("ENDSEC;END-ISO-10303-21;")?;
-    Ok(text)
-}
-
-fn model_of(alloc: Global, text: &[u8]) -> Result<Model, Fail> {
-    let Ok(file) = read_file(alloc, text) else {
-        return Err(Fail::from("not read"));
-    };
-    let Ok(model) = build(alloc, &file) else {
-        return Err(Fail::from("no model"));
-    };
-    Ok(model)
-}
-
 /// The sample part with these changes.
 fn part(alloc: Global, changes: &[Change]) -> Result<Checked, Fail> {
-    let text = text_of(alloc, changes)?;
-    let model = model_of(alloc, text.as_bytes())?;
-    match check(alloc, model) {
-        Ok(checked) => Ok(checked),
-        Err(_) => Err(Fail::from("not sound")),
-    }
+    let text = changed_text(alloc, &INSTANCES, changes)?;
+    checked_of(alloc, text.as_bytes())
 }
 
 /// The words of a command, with a raw box where it is not empty.

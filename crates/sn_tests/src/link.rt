@@ -1,31 +1,11 @@
 //! The plans of a job of holes, of a trail and of a pocket, move by move.
-use sn_geom::{Body, Pt, Pt3, Um};
+use crate::fixtures::{pt, pt3};
+use sn_geom::{Body, Pt3};
 use sn_link::{Move, PlannedStep, Plans, plan};
 use sn_outline::{Bottom, Job, Numbers, Outline, Points, Shape, Shapes, StepJob, Steps, Way};
 use sn_raster::{Big, Grid};
 use std::alloc::Global;
 use std::test::Fail;
-
-fn um(v: i32) -> Result<Um, Fail> {
-    Ok(Um::new(v).ok_or("out of range")?)
-}
-
-fn pt(x: i32, y: i32) -> Result<Pt, Fail> {
-    Ok(Pt {
-        x: um(x)?,
-        y: um(y)?,
-    })
-}
-
-type Place = (i32, i32, i32);
-
-fn pt3(place: Place) -> Result<Pt3, Fail> {
-    Ok(Pt3 {
-        x: um(place.0)?,
-        y: um(place.1)?,
-        z: um(place.2)?,
-    })
-}
 
 /// How a step cuts: the depths of a layer and of a pass, and its way.
 struct Cut {
@@ -118,8 +98,8 @@ fn hole_steps(alloc: Global) -> Result<Steps, Fail> {
 }
 
 fn holes(alloc: Global) -> Result<Job, Fail> {
-    let low = pt3((0, 0, 0))?;
-    let high = pt3((20_000, 20_000, 10_000))?;
+    let low = pt3(0, 0, 0)?;
+    let high = pt3(20_000, 20_000, 10_000)?;
     let steps = hole_steps(alloc)?;
     job_in(alloc, steps, 2, low, high)
 }
@@ -135,8 +115,8 @@ fn points(alloc: Global) -> Result<Points, Fail> {
 
 /// A trail of three points, which is cut in two layers.
 fn trail(alloc: Global) -> Result<Job, Fail> {
-    let low = pt3((0, 0, 0))?;
-    let high = pt3((20_000, 20_000, 10_000))?;
+    let low = pt3(0, 0, 0)?;
+    let high = pt3(20_000, 20_000, 10_000)?;
     let shape = Shape::Trail(points(alloc)?, 4_000);
     let cut = Cut {
         axial: 3_000,
@@ -149,8 +129,8 @@ fn trail(alloc: Global) -> Result<Job, Fail> {
 
 /// A pocket over columns 3 to 9 and rows 3 to 12, with a border of one raw node around it, which is cut in two layers.
 fn pocket(alloc: Global) -> Result<Job, Fail> {
-    let low = pt3((2_000, 2_000, 0))?;
-    let high = pt3((10_000, 13_000, 10_000))?;
+    let low = pt3(2_000, 2_000, 0)?;
+    let high = pt3(10_000, 13_000, 10_000)?;
     let shape = Shape::Rect(pt(3_000, 3_000)?, pt(9_000, 12_000)?);
     let cut = Cut {
         axial: 4_000,

@@ -6,7 +6,8 @@ ghost use Rattle.sn_open.specs.Window.{rows};
 ghost use Rattle.sn_open.specs.Planes.{IsGridWith};
 ghost use Rattle.sn_open.specs.Reach.{IsExecuted};
 
-use sn_geom::{Body, Cell, Pt, Pt3, Um};
+use crate::fixtures::{pt, pt3};
+use sn_geom::{Body, Cell, Pt3};
 use sn_open::{
     Allowed, Centres, Gouges, Opening, Required, columns_of, first_small, first_unreached, has_at,
     rows_of,
@@ -16,25 +17,10 @@ use sn_raster::{Big, Bits, Grid, Heights};
 use std::alloc::Global;
 use std::test::Fail;
 
-fn um(v: i32) -> Result<Um, Fail> {
-    Ok(Um::new(v).ok_or("out of range")?)
-}
-
-fn pt(x: i32, y: i32) -> Result<Pt, Fail> {
-    Ok(Pt {
-        x: um(x)?,
-        y: um(y)?,
-    })
-}
-
 type Place = (i32, i32, i32);
 
 fn place(p: Place) -> Result<Pt3, Fail> {
-    Ok(Pt3 {
-        x: um(p.0)?,
-        y: um(p.1)?,
-        z: um(p.2)?,
-    })
+    pt3(p.0, p.1, p.2)
 }
 
 /// A job of one step that clears a pocket from column 3 up to a last one and from row 3 to row 8. The raw nodes are those of

@@ -1,6 +1,7 @@
 //! What is written of counts, the counts of a job, and a part that is made.
 
-use sn_geom::{Body, Pt, Pt3, Um};
+use crate::fixtures::{pt, pt3};
+use sn_geom::Body;
 use sn_io::MemSink;
 use sn_link::plan;
 use sn_outline::{Bottom, Job, Numbers, Outline, Shape, Shapes, StepJob, Steps, Way};
@@ -46,18 +47,9 @@ fn counts_are_written(rt: HostRuntime) -> Result<(), Fail> {
     Ok(())
 }
 
-fn um(v: i32) -> Result<Um, Fail> {
-    Ok(Um::new(v).ok_or("out of range")?)
-}
-
 /// A job that drills a hole of 4 mm in a block of 20 mm by 20 mm by 10 mm, 6 mm deep.
 fn one_hole(alloc: Global) -> Result<Job, Fail> {
-    let none = um(0)?;
-    let wide = um(20_000)?;
-    let centre = Pt {
-        x: um(5_000)?,
-        y: um(5_000)?,
-    };
+    let centre = pt(5_000, 5_000)?;
     let mut steps = Steps::new(alloc);
     steps.push(StepJob {
         ws: 30,
@@ -82,16 +74,8 @@ fn one_hole(alloc: Global) -> Result<Job, Fail> {
     })?;
     let mut tools = Numbers::new(alloc);
     tools.push(17)?;
-    let low = Pt3 {
-        x: none,
-        y: none,
-        z: none,
-    };
-    let high = Pt3 {
-        x: wide,
-        y: wide,
-        z: um(10_000)?,
-    };
+    let low = pt3(0, 0, 0)?;
+    let high = pt3(20_000, 20_000, 10_000)?;
     Ok(Job::new(1_000, low, high, 20_000, steps, tools).ok_or("no job")?)
 }
 

@@ -2,32 +2,18 @@
 ghost use Rattle.std.specs.Prelude.{◌≡◌, ◌+◌, ◌<◌, [], length, IfOk};
 ghost use Rattle.sn_raster.specs.Grid.{IsGridOf};
 
-use sn_geom::{Body, Pt, Pt3, Um};
+use crate::fixtures::{pt, pt3};
+use sn_geom::Body;
 use sn_outline::{Bottom, Job, Numbers, Outline, Shape, Shapes, StepJob, Steps, Way};
 use sn_raster::{Big, Grid};
 use sn_sweep::{Cause, Checker, Verdict};
 use std::alloc::Global;
 use std::test::Fail;
 
-fn um(v: i32) -> Result<Um, Fail> {
-    Ok(Um::new(v).ok_or("out of range")?)
-}
-
-fn place(x: i32, y: i32, z: i32) -> Result<Pt3, Fail> {
-    Ok(Pt3 {
-        x: um(x)?,
-        y: um(y)?,
-        z: um(z)?,
-    })
-}
-
 /// A hole of a diameter of 2 mm at (4, 3) in a box of 8 by 6 by 5 mm, drilled through in the workingstep 20, with the
 /// security height of 7 mm.
 fn step(alloc: Global) -> Result<StepJob, Fail> {
-    let centre = Pt {
-        x: um(4_000)?,
-        y: um(3_000)?,
-    };
+    let centre = pt(4_000, 3_000)?;
     Ok(StepJob {
         ws: 20,
         feature: 30,
@@ -56,8 +42,8 @@ fn job(alloc: Global) -> Result<Job, Fail> {
     steps.push(step(alloc)?)?;
     let mut tools = Numbers::new(alloc);
     tools.push(10)?;
-    let low = place(0, 0, 0)?;
-    let high = place(8_000, 6_000, 5_000)?;
+    let low = pt3(0, 0, 0)?;
+    let high = pt3(8_000, 6_000, 5_000)?;
     Ok(Job::new(1_000, low, high, 7_000, steps, tools).ok_or("no job")?)
 }
 

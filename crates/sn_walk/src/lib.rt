@@ -14,6 +14,3 @@ pub use limits::MOST_VISITS;
 pub use node::{Comparison, Node};
 pub use project::{main_setup, main_workplan};
 pub use walk::{Numbers, executed};
-
-#[cfg(test)]
-mod tests;

@@ -16,6 +16,3 @@ pub use fault::WordFault;
 pub use limits::{DEFAULT_PITCH, MOST_SEED, MOST_VALUE, PER_ONE, PER_UM};
 pub use options::{Assign, Assigns, Command, Opts, RawBox};
 pub use words::Words;
-
-#[cfg(test)]
-mod tests;

@@ -1,4 +1,4 @@
-use Rattle.sn_refs.proofs.tests.check_places.Goals as goal
+use Rattle.sn_tests.proofs.refs.check_places.Goals as goal
 
 pub fields-requires : goal.fields-requires
 fields-requires g c = (c.many-2.ensures.targets c.in-Some-first.step c.in-Some-first.ensures).reached

@@ -7,10 +7,10 @@ ghost use Rattle.sn_entity.specs.declared.row.RowId.TheVariants.{Axis2Placement3
 ghost use Rattle.sn_refs.specs.Reference.{IsReached};
 ghost use Rattle.sn_refs.specs.Target.{IsTarget};
 
-use crate::{Checked, RefFault, check};
+use crate::fixtures::{file_text, model_of};
 use sn_entity::{EntFault, RowId, Triple, Value};
-use sn_model::{build, project_has_row};
-use sn_p21::read_file;
+use sn_model::project_has_row;
+use sn_refs::{Checked, RefFault, check};
 use std::alloc::Global;
 use std::process::Abort;
 use std::test::Fail;
@@ -21,15 +21,8 @@ const ONE_HOLE: &str =
 
 /// What `check` answers of the model of these instances.
 fn verdict(alloc: Global, instances: &str) -> Result<Result<Checked, RefFault>, Fail> {
-    let text = format!(in alloc;
-        "ISO-10303-21;HEADER;FILE_DESCRIPTION((''),'1');FILE_NAME();FILE_SCHEMA(());ENDSEC;DATA;{instances}ENDSEC;END-ISO-10303-21;"
-    )?;
-    let Ok(file) = read_file(alloc, text.as_bytes()) else {
-        return Err(Fail::from("not read"));
-    };
-    let Ok(model) = build(alloc, &file) else {
-        return Err(Fail::from("no model"));
-    };
+    let text = file_text(alloc, instances)?;
+    let model = model_of(alloc, text.as_bytes())?;
     Ok(check(alloc, model))
 }
 

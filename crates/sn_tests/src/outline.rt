@@ -1,18 +1,19 @@
 //! Tables of points in outlines, and the parts of jobs.
 ghost use Rattle.std.specs.Prelude.{◌≡◌};
 
-use super::*;
-use sn_geom::{Body, NO_DEPTH, Pt, Pt3, REACH, Um};
+use crate::fixtures::{pt, pt3};
+use sn_geom::{Body, NO_DEPTH, Pt, REACH};
+use sn_outline::{
+    Bottom, Job, Numbers, Outline, Points, Shape, Shapes, StepJob, Steps, Way, inside, is_proper,
+    tip_floor,
+};
 use std::alloc::Global;
 use std::test::Fail;
 
 type Place = (i32, i32);
 
 fn point(place: Place) -> Result<Pt, Fail> {
-    Ok(Pt {
-        x: Um::new(place.0).ok_or("x is out of range")?,
-        y: Um::new(place.1).ok_or("y is out of range")?,
-    })
+    pt(place.0, place.1)
 }
 
 fn plain(alloc: Global, shape: Shape) -> Outline
@@ -177,14 +178,6 @@ fn points_near_trails(rt: HostRuntime) -> Result<(), Fail> {
     Ok(())
 }
 
-fn corner(x: i32, y: i32, z: i32) -> Result<Pt3, Fail> {
-    Ok(Pt3 {
-        x: Um::new(x).ok_or("x is out of range")?,
-        y: Um::new(y).ok_or("y is out of range")?,
-        z: Um::new(z).ok_or("z is out of range")?,
-    })
-}
-
 /// A hole that is drilled at its centre.
 fn drilling(alloc: Global, tool: u32, bottom: Bottom) -> Result<StepJob, Fail> {
     Ok(StepJob {
@@ -208,8 +201,8 @@ fn drilling(alloc: Global, tool: u32, bottom: Bottom) -> Result<StepJob, Fail> {
 }
 
 fn with_step(alloc: Global, step: StepJob) -> Result<Option<Job>, Fail> {
-    let low = corner(0, 0, 0)?;
-    let high = corner(10_000, 10_000, 20_000)?;
+    let low = pt3(0, 0, 0)?;
+    let high = pt3(10_000, 10_000, 20_000)?;
     let mut steps = Steps::new(alloc);
     steps.push(step)?;
     let mut tools = Numbers::new(alloc);
@@ -225,8 +218,8 @@ fn parts_of_a_job(rt: HostRuntime) -> Result<(), Fail> {
     let job = with_step(rt.alloc(), step)?.ok_or("no job")?;
     job.rule();
     assert_eq!(rt; job.pitch(), 250);
-    assert_eq!(rt; job.low(), corner(0, 0, 0)?);
-    assert_eq!(rt; job.high(), corner(10_000, 10_000, 20_000)?);
+    assert_eq!(rt; job.low(), pt3(0, 0, 0)?);
+    assert_eq!(rt; job.high(), pt3(10_000, 10_000, 20_000)?);
     assert_eq!(rt; job.sec(), 25_000);
     assert_eq!(rt; job.steps().len(), 1);
     assert_eq!(rt; job.tools().first(), Some(&12));

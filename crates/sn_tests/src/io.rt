@@ -1,5 +1,5 @@
 //! What no clause says: that calls succeed, and what the machine's files and outputs do.
-use crate::{
+use sn_io::{
     CountSink, DiskFiles, Failed, Files, MemFiles, MemSink, OutSink, Sink, WriteFault, write_all,
 };
 use std::io::Cursor;

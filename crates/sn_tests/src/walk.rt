@@ -1,9 +1,8 @@
 //! Walks over small parts.
 
-use crate::{WalkFault, executed, main_setup, main_workplan};
-use sn_model::build;
-use sn_p21::read_file;
-use sn_refs::{Checked, check};
+use crate::fixtures::{checked_of, file_text};
+use sn_refs::Checked;
+use sn_walk::{WalkFault, executed, main_setup, main_workplan};
 use sn_words::Assign;
 use sqlite_items::Items;
 use std::alloc::Global;
@@ -19,19 +18,9 @@ const CONDITIONS: &str =
 
 /// The model of these instances beside the base.
 fn checked(alloc: Global, instances: &str) -> Result<Checked, Fail> {
-    let text = format!(in alloc;
-        "ISO-10303-21;HEADER;FILE_DESCRIPTION((''),'1');FILE_NAME();FILE_SCHEMA(());ENDSEC;DATA;{BASE}{instances}ENDSEC;END-ISO-10303-21;"
-    )?;
-    let Ok(file) = read_file(alloc, text.as_bytes()) else {
-        return Err(Fail::from("not read"));
-    };
-    let Ok(model) = build(alloc, &file) else {
-        return Err(Fail::from("no model"));
-    };
-    match check(alloc, model) {
-        Ok(checked) => Ok(checked),
-        Err(_) => Err(Fail::from("not sound")),
-    }
+    let instances = format!(in alloc; "{BASE}{instances}")?;
+    let text = file_text(alloc, instances.as_str())?;
+    checked_of(alloc, text.as_bytes())
 }
 
 /// Whether the walk over these instances, with a value for `deep`, gives the steps or the fault.

@@ -1,6 +1,7 @@
 //! Each row of the table once, and the faults of parameters.
 
-use crate::{EntFault, Fields, Triple, Value, fields, row_of};
+use crate::fixtures::file_text;
+use sn_entity::{EntFault, Fields, Triple, Value, fields, row_of};
 use sn_p21::{Instance, read_file};
 use std::alloc::{AllocError, Global};
 use std::process::Abort;
@@ -133,9 +134,7 @@ fn known(alloc: Global, instance: &Instance) -> Option<Result<Fields, EntFault>>
 
 /// What the instance of this text shows.
 fn shown(alloc: Global, text: &str) -> Result<Result<Fields, EntFault>, Fail> {
-    let text = format!(in alloc;
-        "ISO-10303-21;HEADER;FILE_DESCRIPTION();FILE_NAME();FILE_SCHEMA();ENDSEC;DATA;{text}ENDSEC;END-ISO-10303-21;"
-    )?;
+    let text = file_text(alloc, text)?;
     let Ok(file) = read_file(alloc, text.as_bytes()) else {
         return Err(Fail::from("not read"));
     };

@@ -1,5 +1,5 @@
 //! Tables of frames.
-use crate::{Frame, FrameFault};
+use sn_frame::{Frame, FrameFault};
 use sn_geom::{Pt3, Um};
 use std::test::Fail;
 

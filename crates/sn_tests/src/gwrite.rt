@@ -1,13 +1,13 @@
 //! Programs and lengths as text.
-ghost use Rattle.std.specs.Prelude.{◌≡◌, None, IfSome};
+ghost use Rattle.std.specs.Prelude.{None};
 ghost use Rattle.sn_gwrite.specs.Kept.{IsStraight};
 
-use crate::text::Text;
-use crate::{
+use crate::fixtures::pt3;
+use sn_geom::Pt3;
+use sn_gwrite::{
     Emitter, forms_are_read, forms_text_is_lines, length_text_shows_length, parts_are_forms,
     text_shows_one_length,
 };
-use sn_geom::{Pt3, Um};
 use sn_io::{Failed, Sink, WriteFault};
 use std::alloc::Global;
 use std::test::Fail;
@@ -44,6 +44,13 @@ G1 X40.000 Y-2000.000
 M2
 %
 ";
+
+/// A program up to the height of its entry.
+const ENTRY: &str = "%
+G21 G90 G17 G94 G40 G61
+T1 M6
+G43 H1
+G0 Z";
 
 /// A sink that takes at most so many bytes a write, and fails at one write.
 #[derive(Drop)]
@@ -84,16 +91,6 @@ impl Sink for Tape {
     }
 }
 
-fn point(x: i32, y: i32, z: i32) -> Option<Pt3>
-    ensures { IfSome result (λ p. p ≡ record { x = x; y = y; z = z }) }
-{
-    Some(Pt3 {
-        x: Um::new(x)?,
-        y: Um::new(y)?,
-        z: Um::new(z)?,
-    })
-}
-
 fn write_hole<S: Sink>(sink: &mut S, high: &Pt3, low: &Pt3, floor: &Pt3) -> Result<(), WriteFault>
     requires down { IsStraight high.now low.now }
     requires plunge { IsStraight low.now floor.now }
@@ -126,11 +123,19 @@ fn write_cut<S: Sink>(sink: &mut S, from: &Pt3, to: &Pt3) -> Result<(), WriteFau
     emitter.end(sink)
 }
 
+/// Writes a program up to its first motion, which enters at the height of a point.
+fn write_entry<S: Sink>(sink: &mut S, to: &Pt3) -> Result<(), WriteFault> {
+    let mut emitter = Emitter::new();
+    emitter.head(sink, &[])?;
+    emitter.change_tool(sink, 1)?;
+    emitter.rapid(sink, to)
+}
+
 #[test]
 fn writes_a_hole(rt: HostRuntime) -> Result<(), Fail> {
-    let high = point(10_000, 10_000, 20_000).ok_or("range")?;
-    let low = point(10_000, 10_000, 11_000).ok_or("range")?;
-    let floor = point(10_000, 10_000, 4_000).ok_or("range")?;
+    let high = pt3(10_000, 10_000, 20_000)?;
+    let low = pt3(10_000, 10_000, 11_000)?;
+    let floor = pt3(10_000, 10_000, 4_000)?;
     for (most, failing, taken) in [(256, 0, 136), (1, 0, 136), (256, 3, 35), (1, 100, 99)] {
         let mut tape = Tape::new(rt.alloc(), most, failing);
         let written = write_hole(&mut tape, &high, &low, &floor);
@@ -143,8 +148,8 @@ fn writes_a_hole(rt: HostRuntime) -> Result<(), Fail> {
 
 #[test]
 fn writes_a_cut(rt: HostRuntime) -> Result<(), Fail> {
-    let from = point(-5, 15_000, 20_000).ok_or("range")?;
-    let to = point(40_000, -2_000_000, 20_000).ok_or("range")?;
+    let from = pt3(-5, 15_000, 20_000)?;
+    let to = pt3(40_000, -2_000_000, 20_000)?;
     let mut tape = Tape::new(rt.alloc(), 256, 0);
     write_cut(&mut tape, &from, &to)?;
     assert_eq!(rt; tape.bytes.as_slice(), CUT.as_bytes());
@@ -169,10 +174,9 @@ fn prints_lengths(rt: HostRuntime) -> Result<(), Fail> {
         (10_050, "10.050"),
     ] {
         let mut tape = Tape::new(rt.alloc(), 256, 0);
-        let mut printed = Text::new();
-        printed.push_length(Um::new(um).ok_or("range")?);
-        printed.write_to(&mut tape)?;
-        assert_eq!(rt; tape.bytes.as_slice(), text.as_bytes());
+        write_entry(&mut tape, &pt3(0, 0, um)?)?;
+        let program = format!(in rt.alloc(); "{ENTRY}{text}\n")?;
+        assert_eq!(rt; tape.bytes.as_slice(), program.as_bytes());
     }
     Ok(())
 }

@@ -1,5 +1,6 @@
-use super::*;
-use Token::*;
+//! Texts of tokens and of faults, and the tokens of one text.
+use sn_lex::Token::*;
+use sn_lex::{LexFault, Span, Token, next_token};
 
 const TOKENS: [(&[u8], Token, usize, usize); 57] = [
     (b"ISO-10303-21;", FileStart, 0, 12),

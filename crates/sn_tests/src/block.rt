@@ -1,4 +1,5 @@
-use crate::{LineFault, Word, read_line};
+//! Lines with what they say, and lines at fault.
+use sn_block::{LineFault, Word, read_line};
 
 /// A line, its number, its mark and its words.
 type Row = (

@@ -1,6 +1,6 @@
 //! Texts that are read, and texts that are refused at their places.
 
-use crate::{Bytes, Entity, Instances, Param, read_file, write_file, write_instances};
+use sn_p21::{Bytes, Entity, Instances, Param, read_file, write_file, write_instances};
 use std::alloc::Global;
 use std::test::Fail;
 

@@ -1,14 +1,15 @@
 //! The models of small files.
 
-use crate::{Entry, ModelFault, build};
+use crate::fixtures::file_text;
 use sn_entity::{EntFault, RowId, Value};
+use sn_model::{Entry, ModelFault, build};
 use sn_p21::read_file;
 use std::test::Fail;
 
 /// The file with these instances.
 macro_rules! file {
     ($rt:ident, $instances:expr) => {{
-        let text = format!(in $rt.alloc(); "ISO-10303-21;HEADER;FILE_DESCRIPTION((''),'1');FILE_NAME();FILE_SCHEMA(());ENDSEC;DATA;{}ENDSEC;END-ISO-10303-21;", $instances)?;
+        let text = file_text($rt.alloc(), $instances)?;
         let Ok(file) = read_file($rt.alloc(), text.as_bytes()) else {
             return Err(Fail::from("not read"));
         };

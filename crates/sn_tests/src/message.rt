@@ -1,8 +1,8 @@
 //! Texts of refusals and of verdicts.
 
-use crate::{Refusal, TextFault, write_refusal, write_verdict};
 use sn_geom::{Cell, LineFault};
 use sn_io::MemSink;
+use sn_message::{Refusal, TextFault, write_refusal, write_verdict};
 use sn_open::{Cause, Verdict};
 use std::test::Fail;
 

@@ -1,7 +1,7 @@
 //! Programs, and what each of their lines does.
-use crate::Machine;
 use sn_block::read_line;
 use sn_geom::{Acts, Motion, Pt3};
+use sn_machine::Machine;
 use std::alloc::{AllocError, Global};
 use std::test::Fail;
 

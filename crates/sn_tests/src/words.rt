@@ -1,6 +1,6 @@
 //! Lists of words, what they ask for, and where others depart.
 
-use crate::{Opts, RawBox, Words, values};
+use sn_words::{Opts, RawBox, Words, values};
 use std::alloc::Global;
 use std::test::Fail;
 

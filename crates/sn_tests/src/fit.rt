@@ -1,6 +1,7 @@
 //! The strokes of a trail of three points, and of drills that open nodes and none.
-use super::*;
-use sn_geom::{Body, Pt, Pt3, Um};
+use crate::fixtures::{pt, pt3};
+use sn_fit::{drill_strokes, trail_strokes};
+use sn_geom::Body;
 use sn_open::{Opening, Strokes};
 use sn_outline::{
     Bottom, Job, Numbers, Outline, Points, Shape, Shapes, StepJob, Steps, Way, is_proper,
@@ -8,25 +9,6 @@ use sn_outline::{
 use sn_raster::{Big, Grid};
 use std::alloc::Global;
 use std::test::Fail;
-
-fn um(v: i32) -> Result<Um, Fail> {
-    Ok(Um::new(v).ok_or("out of range")?)
-}
-
-fn pt(x: i32, y: i32) -> Result<Pt, Fail> {
-    Ok(Pt {
-        x: um(x)?,
-        y: um(y)?,
-    })
-}
-
-fn pt3(x: i32, y: i32, z: i32) -> Result<Pt3, Fail> {
-    Ok(Pt3 {
-        x: um(x)?,
-        y: um(y)?,
-        z: um(z)?,
-    })
-}
 
 /// A job of one step with a tool of 3 mm.
 fn job(alloc: Global, shape: Shape, way: Way) -> Result<Job, Fail> {
