@@ -1,14 +1,17 @@
--- Laws of the lines of the parts of a program (this project's own).
+-- Laws of the forms of line and of the lines of each part of a program (this project's own).
 use Rattle.std.specs.Prelude.{ℕ, ◌≡◌, ◌≤◌, ◌<◌, ◌^◌, List, ◌++◌, length, map, All}
 use Rattle.sn_geom.specs.Length.{IsLength}
+use Rattle.sn_geom.specs.LineText.{LineText}
 use Rattle.sn_geom.specs.Block.{lines_of}
 use Rattle.sn_geom.specs.declared.units.Pt3.{Pt3}
 use Rattle.sn_geom.specs.declared.tip.MotionMode.{MotionMode}
 use Rattle.sn_geom.specs.declared.tip.Tip.{Tip}
-use Rattle.sn_gwrite.specs.Forms.{Form, form_text}
 use Rattle.sn_gwrite.specs.Kept.{IsToolNumber, IsRate}
-use Rattle.sn_gwrite.specs.PartForms.{AreProper, forms_text, head_forms, mark_forms, change_forms, rates_forms, motion_forms, end_forms}
-use Rattle.sn_gwrite.specs.Program.{head_text, mark_text, change_text, rates_text, motion_text, end_text}
+use Rattle.sn_gwrite.specs.Program.{Form, IsProper, form_text, form_block, AreProper, forms_text, head_forms, mark_forms, change_forms, rates_forms, motion_forms, end_forms, head_text, mark_text, change_text, rates_text, motion_text, end_text}
+
+-- a line of each form is read as what the form says
+abbrev pub FormsAreRead : Type 0
+FormsAreRead = (form : Form) → IsProper form → LineText (form_text form) (form_block form)
 
 -- the text of proper forms, whatever text follows it, is cut into the texts of the forms
 abbrev pub FormsTextIsLines : Type 0
