@@ -9,6 +9,8 @@ pub mod HeightRows
 pub mod HeightTops
 pub mod Margins
 pub mod Marks
+pub mod MarksBeside
+pub mod NeighbourPlanes
 pub mod Planes
 pub mod Besides
 pub mod Sides

@@ -1,11 +1,13 @@
 //! Planes of nodes.
-ghost use Rattle.std.specs.Prelude.{◌≡◌, ℕ, ◌*◌, ◌<◌, ◌↔◌, ◌⊎◌, ◌&&◌, ◌||◌, not, false, length, slice_index_or, IsTrue, IfOk};
+ghost use Rattle.std.specs.Prelude.{◌≡◌, ℕ, ◌+◌, ◌*◌, ◌≤◌, ◌<◌, ◌↔◌, ◌⊎◌, ◌&&◌, ◌||◌, not, false, length, slice_index_or, IsTrue, IfOk};
 ghost use Rattle.sn_raster.specs.Grid.{Node, IsInWindow, places};
 ghost use Rattle.sn_raster.specs.Plane.{Has, IsEmpty, mark_of};
+ghost use Rattle.sn_raster.specs.Neighbours.{HasBesideInRow, HasBesideInColumn};
 
+use crate::beside::{keep_beside, keep_rows};
 use crate::grid::Grid;
 use crate::places::Places;
-use sn_geom::Memory;
+use sn_geom::{Memory, REACH};
 use std::alloc::Global;
 use std::marker::Model;
 
@@ -98,6 +100,27 @@ impl Bits {
         add(&mut self.marks, &other.marks);
     }
 
+    /// Makes it the plane of the nodes that the other plane has with the nodes of the window beside them in their row.
+    pub fn keep_beside_in_rows(&mut self, from: &Bits)
+        requires { from.now.grid ≡ self.old.grid }
+        ensures grid { self.new.grid ≡ self.old.grid }
+        ensures nodes { (n : Node) → Has self.new n ↔ (IsInWindow self.old.grid n × HasBesideInRow from.now n) }
+    {
+        let columns = columns_of(&self.grid);
+        let rows = rows_of(&self.grid);
+        keep_rows(&mut self.marks, &from.marks, columns, rows);
+    }
+
+    /// Makes it the plane of the nodes that the other plane has with the nodes of the window beside them in their column.
+    pub fn keep_beside_in_columns(&mut self, from: &Bits)
+        requires { from.now.grid ≡ self.old.grid }
+        ensures grid { self.new.grid ≡ self.old.grid }
+        ensures nodes { (n : Node) → Has self.new n ↔ (IsInWindow self.old.grid n × HasBesideInColumn from.now n) }
+    {
+        let columns = columns_of(&self.grid);
+        keep_beside(&mut self.marks, &from.marks, columns);
+    }
+
     /// Makes it the plane of the nodes of the other plane.
     pub fn copy(&mut self, other: &Bits)
         requires { other.now.grid ≡ self.old.grid }
@@ -107,19 +130,35 @@ impl Bits {
     }
 }
 
-/// How many nodes the window has.
-pub(crate) fn nodes_of(g: &Grid) -> usize
-    ensures { result ≡ places g.now.i0 g.now.i1 * places g.now.j0 g.now.j1 }
+/// How many columns the window has.
+fn columns_of(g: &Grid) -> usize
+    ensures value { result ≡ places g.now.i0 g.now.i1 }
+    ensures size { result ≤ 2 * REACH + 1 }
 {
     let columns = Places {
         first: g.i0,
         last: g.i1,
     };
+    columns.count() as usize
+}
+
+/// How many rows the window has.
+fn rows_of(g: &Grid) -> usize
+    ensures value { result ≡ places g.now.j0 g.now.j1 }
+    ensures size { result ≤ 2 * REACH + 1 }
+{
     let rows = Places {
         first: g.j0,
         last: g.j1,
     };
-    columns.count() as usize * rows.count() as usize
+    rows.count() as usize
+}
+
+/// How many nodes the window has.
+pub(crate) fn nodes_of(g: &Grid) -> usize
+    ensures { result ≡ places g.now.i0 g.now.i1 * places g.now.j0 g.now.j1 }
+{
+    columns_of(g) * rows_of(g)
 }
 
 /// Which mark is that of the node in column `i` and row `j`.
@@ -143,7 +182,7 @@ fn common(marks: &mut [bool], a: &[bool], b: &[bool])
         → slice_index_or marks.new k false ≡ slice_index_or a.now k false && slice_index_or b.now k false }
 {
     for k in 0..marks.len() {
-        marks[k] = a[k] && b[k];
+        marks[k] = a[k] & b[k];
     }
 }
 

@@ -3,6 +3,7 @@
 //! Lengths are whole micrometres.
 #![tactic(auto)]
 
+mod beside;
 mod bits;
 mod fill;
 mod grid;

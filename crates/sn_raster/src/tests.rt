@@ -140,6 +140,42 @@ fn rows_of_a_plane(rt: HostRuntime) -> Result<(), Fail> {
     Ok(())
 }
 
+/// The nodes that the plane has with those beside them, in their rows and in their columns.
+fn beside(alloc: Global, plane: &Bits) -> Result<(Bits, Bits), Fail> {
+    let g = plane.grid();
+    let mut in_rows = Bits::new(alloc, &g)?;
+    let mut in_columns = Bits::new(alloc, &g)?;
+    in_rows.keep_beside_in_rows(plane);
+    in_columns.keep_beside_in_columns(plane);
+    Ok((in_rows, in_columns))
+}
+
+#[test]
+fn nodes_beside_a_hole(rt: HostRuntime) -> Result<(), Fail> {
+    let g = grid(rt.alloc(), 3_500, 2_000, 1_000)?
+        .ok()
+        .ok_or("too big")?;
+    let mut plane = Bits::new(rt.alloc(), &g)?;
+    put(&mut plane, 1, 1)?;
+    plane.invert();
+    let (in_rows, in_columns) = beside(rt.alloc(), &plane)?;
+    let cases = [
+        (0, 0, true, true),
+        (1, 0, true, false),
+        (0, 1, false, true),
+        (1, 1, false, false),
+        (2, 1, false, true),
+        (3, 1, true, true),
+        (1, 2, true, false),
+        (3, 2, true, true),
+    ];
+    for (i, j, row, column) in cases {
+        assert_eq!(rt; has(&in_rows, i, j)?, row, "{i} {j}");
+        assert_eq!(rt; has(&in_columns, i, j)?, column, "{i} {j}");
+    }
+    Ok(())
+}
+
 type Place = (i32, i32, i32);
 
 fn place(p: Place) -> Result<Pt3, Fail> {
