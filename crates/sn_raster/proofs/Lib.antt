@@ -8,7 +8,9 @@ pub mod HeightFirsts
 pub mod HeightRows
 pub mod HeightTops
 pub mod Margins
+pub mod MarkRuns
 pub mod Marks
+pub mod PlaneRows
 pub mod Planes
 pub mod Besides
 pub mod Sides
