@@ -5,12 +5,13 @@
 
 mod beside;
 mod bits;
-mod fill;
+mod filling;
 mod grid;
 pub mod height_laws;
 mod heights;
 pub mod laws;
 mod leads;
+mod outlines;
 mod places;
 mod reach;
 mod segments;
@@ -19,9 +20,10 @@ mod tops;
 mod turns;
 
 pub use bits::Bits;
-pub use fill::fill_row;
+pub use filling::{add_near, fill};
 pub use grid::{Big, Grid};
 pub use heights::Heights;
+pub use outlines::fill_row;
 
 #[cfg(test)]
 mod tests;

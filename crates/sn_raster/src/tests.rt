@@ -5,7 +5,7 @@ ghost use Rattle.sn_outline.specs.Outline.{HasNearWidth};
 ghost use Rattle.sn_raster.specs.Grid.{IsInWindow};
 
 use super::*;
-use sn_geom::{Body, Cell, Pt, Pt3, REACH, Um};
+use sn_geom::{Body, Cell, Pt, Pt3, REACH, Seg, Um};
 use sn_outline::{Job, Numbers, Outline, Shape, Shapes, Steps};
 use std::alloc::Global;
 use std::test::Fail;
@@ -46,7 +46,7 @@ fn rectangle(alloc: Global, low: Pt, high: Pt) -> Outline
     }
 }
 
-fn fill(o: &Outline, j: i32, plane: &mut Bits) -> Result<(), Fail>
+fn fill_in_row(o: &Outline, j: i32, plane: &mut Bits) -> Result<(), Fail>
     requires { HasNearWidth o.now.shape }
 {
     let g = plane.grid();
@@ -122,7 +122,7 @@ fn rows_of_a_plane(rt: HostRuntime) -> Result<(), Fail> {
     let mut plane = Bits::new(rt.alloc(), &g)?;
     put(&mut plane, 0, 1)?;
     put(&mut plane, 3, 2)?;
-    fill(&outline, 1, &mut plane)?;
+    fill_in_row(&outline, 1, &mut plane)?;
     let both = copied(rt.alloc(), &plane)?;
     let cases = [
         (1, 0, false),
@@ -172,6 +172,44 @@ fn nodes_beside_a_hole(rt: HostRuntime) -> Result<(), Fail> {
     for (i, j, row, column) in cases {
         assert_eq!(rt; has(&in_rows, i, j)?, row, "{i} {j}");
         assert_eq!(rt; has(&in_columns, i, j)?, column, "{i} {j}");
+    }
+    Ok(())
+}
+
+#[test]
+fn planes_of_shapes(rt: HostRuntime) -> Result<(), Fail> {
+    let g = grid(rt.alloc(), 3_500, 2_000, 1_000)?
+        .ok()
+        .ok_or("too big")?;
+    let centre = Pt {
+        x: um(1_000)?,
+        y: um(1_000)?,
+    };
+    let circle = Outline {
+        shape: Shape::Circle(centre, 2_000),
+        islands: Shapes::new(rt.alloc()),
+    };
+    let mut inside = Bits::new(rt.alloc(), &g)?;
+    put(&mut inside, 3, 0)?;
+    fill(&circle, &mut inside);
+    let mut near = Bits::new(rt.alloc(), &g)?;
+    put(&mut near, 3, 0)?;
+    let segment = Seg {
+        a: centre,
+        b: centre,
+    };
+    add_near(2_000, &segment, &mut near);
+    assert!(rt; inside.is_within(&near));
+    assert!(rt; !near.is_within(&inside));
+    let cases = [
+        (1, 1, true),
+        (0, 1, true),
+        (1, 2, true),
+        (2, 2, false),
+        (3, 0, false),
+    ];
+    for (i, j, expected) in cases {
+        assert_eq!(rt; has(&inside, i, j)?, expected, "{i} {j}");
     }
     Ok(())
 }

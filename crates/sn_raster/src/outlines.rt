@@ -8,8 +8,8 @@ ghost use Rattle.sn_raster.specs.Plane.{Has};
 
 use crate::bits::Bits;
 use crate::grid::Grid;
-use crate::shapes::{fill_polygon, fill_trail};
-use sn_geom::{Pt, Um};
+use crate::shapes::{fill_disc, fill_polygon, fill_rectangle, fill_trail};
+use sn_geom::{Pt, REACH, Um};
 use sn_outline::{Outline, Shape, inside};
 
 /// Puts the nodes of row `j` that are inside `o` into the plane, and takes the others of that row out.
@@ -24,7 +24,8 @@ pub fn fill_row(o: &Outline, g: &Grid, j: i32, row: &mut Bits)
     ensures others { (n : Node) → ¬ (n.j ≡ j) → Has row.new n ↔ Has row.old n }
 {
     match &o.shape {
-        Shape::Rect(_, _) => fill_each(o, g, j, row),
+        Shape::Rect(low, high) => fill_rectangle(low, high, g, j, row),
+        Shape::Circle(centre, d) if *d <= REACH => fill_disc(centre, *d, g, j, row),
         Shape::Circle(_, _) => fill_each(o, g, j, row),
         Shape::Polygon(points) => fill_polygon(points.as_slice(), g, j, row),
         Shape::Trail(points, width) => fill_trail(points.as_slice(), *width, g, j, row),

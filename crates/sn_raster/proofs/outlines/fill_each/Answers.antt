@@ -7,7 +7,7 @@ use Rattle.sn_raster.proofs.Axis.{kept}
 use Rattle.sn_raster.proofs.Rows.{IsFilled, at, none_filled, in_window, filled_one, end_is, next_is, one_later, lt_from, passed_end}
 use Rattle.sn_raster.proofs.Marks.{in_own_window}
 use Rattle.sn_geom.specs.Length.{IsLength}
-use Rattle.sn_raster.proofs.fill.fill_each.Goals as goal
+use Rattle.sn_raster.proofs.outlines.fill_each.Goals as goal
 
 pub loop-i-init : goal.loop-i-init
 loop-i-init c =

@@ -1,7 +1,7 @@
 use Rattle.std.proofs.Common.{w32, ap}
 use Rattle.std.proofs.lemmas.Int.{to_z-of_z}
 use Rattle.sn_raster.proofs.Rows.{at, passed_length}
-use Rattle.sn_raster.proofs.fill.place_of.Goals as goal
+use Rattle.sn_raster.proofs.outlines.place_of.Goals as goal
 
 pub coordinate-requires-clause-range : goal.coordinate-requires-clause-range
 coordinate-requires-clause-range c =
