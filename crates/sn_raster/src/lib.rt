@@ -24,6 +24,3 @@ pub use filling::{add_near, fill};
 pub use grid::{Big, Grid};
 pub use heights::Heights;
 pub use outlines::fill_row;
-
-#[cfg(test)]
-mod tests;

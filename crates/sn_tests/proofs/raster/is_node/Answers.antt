@@ -2,7 +2,7 @@ use Rattle.std.proofs.Common.{w32, ap, ◌∙◌}
 use Rattle.std.proofs.lemmas.Int.{to_z-of_z}
 use Rattle.sn_raster.proofs.Axis.{kept}
 use Rattle.sn_raster.proofs.Rows.{passed_between}
-use Rattle.sn_raster.proofs.tests.is_node.Goals as goal
+use Rattle.sn_tests.proofs.raster.is_node.Goals as goal
 
 pub returns-then-is_from_to : goal.returns-then-is_from_to
 returns-then-is_from_to c = λ true_rows.

@@ -4,28 +4,17 @@ ghost use Rattle.sn_geom.specs.Sweep.{IsHorizontalOrVertical};
 ghost use Rattle.sn_outline.specs.Outline.{HasNearWidth};
 ghost use Rattle.sn_raster.specs.Grid.{IsInWindow};
 
-use super::*;
-use sn_geom::{Body, Cell, Pt, Pt3, REACH, Seg, Um};
+use crate::fixtures::{pt, pt3};
+use sn_geom::{Body, Cell, Pt, Pt3, REACH, Seg};
 use sn_outline::{Job, Numbers, Outline, Shape, Shapes, Steps};
+use sn_raster::{Big, Bits, Grid, Heights, add_near, fill, fill_row};
 use std::alloc::Global;
 use std::test::Fail;
 
-fn um(v: i32) -> Result<Um, Fail> {
-    Ok(Um::new(v).ok_or("out of range")?)
-}
-
 /// A job without steps, with a raw rectangle from (-1, 0) to (x, y).
 fn job(alloc: Global, x: i32, y: i32, pitch: u32) -> Result<Job, Fail> {
-    let low = Pt3 {
-        x: um(-1)?,
-        y: um(0)?,
-        z: um(0)?,
-    };
-    let high = Pt3 {
-        x: um(x)?,
-        y: um(y)?,
-        z: um(500)?,
-    };
+    let low = pt3(-1, 0, 0)?;
+    let high = pt3(x, y, 500)?;
     let job = Job::new(
         pitch,
         low,
@@ -60,6 +49,7 @@ fn fill_in_row(o: &Outline, j: i32, plane: &mut Bits) -> Result<(), Fail>
 fn is_node(g: &Grid, i: i32, j: i32) -> bool
     ensures { IsTrue result → IsInWindow g.now (record { i = i; j = j }) }
 {
+    g.rule();
     is_from_to(g.i0, g.i1, i) && is_from_to(g.j0, g.j1, j)
 }
 
@@ -110,14 +100,8 @@ fn rows_of_a_plane(rt: HostRuntime) -> Result<(), Fail> {
     assert_eq!(rt; (g.pitch, g.bottom, g.top), (1_000, 0, 500));
     assert_eq!(rt; (g.i0, g.i1, g.j0, g.j1), (0, 3, 0, 2));
     assert_eq!(rt; (g.ri0, g.ri1, g.rj0, g.rj1), (0, 3, 0, 2));
-    let low = Pt {
-        x: um(1_000)?,
-        y: um(-500)?,
-    };
-    let high = Pt {
-        x: um(2_999)?,
-        y: um(1_000)?,
-    };
+    let low = pt(1_000, -500)?;
+    let high = pt(2_999, 1_000)?;
     let outline = rectangle(rt.alloc(), low, high);
     let mut plane = Bits::new(rt.alloc(), &g)?;
     put(&mut plane, 0, 1)?;
@@ -181,10 +165,7 @@ fn planes_of_shapes(rt: HostRuntime) -> Result<(), Fail> {
     let g = grid(rt.alloc(), 3_500, 2_000, 1_000)?
         .ok()
         .ok_or("too big")?;
-    let centre = Pt {
-        x: um(1_000)?,
-        y: um(1_000)?,
-    };
+    let centre = pt(1_000, 1_000)?;
     let circle = Outline {
         shape: Shape::Circle(centre, 2_000),
         islands: Shapes::new(rt.alloc()),
@@ -217,11 +198,7 @@ fn planes_of_shapes(rt: HostRuntime) -> Result<(), Fail> {
 type Place = (i32, i32, i32);
 
 fn place(p: Place) -> Result<Pt3, Fail> {
-    Ok(Pt3 {
-        x: um(p.0)?,
-        y: um(p.1)?,
-        z: um(p.2)?,
-    })
+    pt3(p.0, p.1, p.2)
 }
 
 /// A level move where the heights are one, and an upright one at the first place where they are not.
