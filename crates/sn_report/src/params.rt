@@ -99,7 +99,7 @@ fn refs(alloc: Global, numbers: &[u32]) -> Result<Vec<Param>, Memory>
 }
 
 /// The parameters of fields.
-pub fn params(alloc: Global, fields: &[Field]) -> Result<Vec<Param>, Memory>
+fn params(alloc: Global, fields: &[Field]) -> Result<Vec<Param>, Memory>
     ensures { IfOk result (λ params. params.items ≡ map param_of fields.now) }
 {
     let mut params = Vec::new(alloc);
@@ -127,7 +127,7 @@ pub fn entity(alloc: Global, keyword: &[u8], fields: &[Field]) -> Result<Entity,
 }
 
 /// An instance of one part.
-pub fn instance_of(
+fn instance_of(
     alloc: Global,
     number: u32,
     keyword: &[u8],
@@ -154,7 +154,7 @@ pub fn instance(
     instance_of(alloc, number, keyword, params(alloc, fields)?)
 }
 
-/// An instance of one part, with the parameters of these fields, one row of them behind the other.
+/// An instance of one part, with the parameters of the fields in front and of those behind them.
 pub fn joined(
     alloc: Global,
     number: u32,
