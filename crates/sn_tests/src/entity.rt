@@ -145,6 +145,14 @@ fn shown(alloc: Global, text: &str) -> Result<Result<Fields, EntFault>, Fail> {
     Ok(found)
 }
 
+/// What the instance of this text shows, where it has no fault.
+fn faultless(alloc: Global, text: &str) -> Result<Fields, Fail> {
+    match shown(alloc, text)? {
+        Ok(found) => Ok(found),
+        Err(_) => Err(Fail::from("a fault")),
+    }
+}
+
 /// Reads a row with a bad parameter at each place that is read, and with one parameter less than it wants.
 fn check_faults(rt: &impl Abort, alloc: Global, keyword: &str, letters: &[u8]) -> Result<(), Fail> {
     let mut place = 0u32;
@@ -175,9 +183,7 @@ fn reads_each_row(rt: HostRuntime) -> Result<(), Fail> {
     for (keyword, letters) in ROWS {
         let letters = letters.as_bytes();
         let text = instance(rt.alloc(), keyword, letters, 0)?;
-        let Ok(found) = shown(rt.alloc(), &text)? else {
-            return Err(Fail::from("a fault"));
-        };
+        let found = faultless(rt.alloc(), &text)?;
         let reads = letters.iter().filter(|letter| **letter != b'.').count();
         assert_eq!(rt; found.values.len(), reads, "{text}");
         check_faults(&rt, rt.alloc(), keyword, letters)?;
@@ -230,46 +236,53 @@ fn tells_the_fault_of_a_parameter(rt: HostRuntime) -> Result<(), Fail> {
 }
 
 #[test]
-fn gives_the_values_of_parameters(rt: HostRuntime) -> Result<(), Fail> {
-    let Ok(technology) = shown(rt.alloc(), "#5=MILLING_TECHNOLOGY(0.005,.TCP.,$,-12.);")? else {
-        return Err(Fail::from("no technology"));
-    };
+fn gives_numbers(rt: HostRuntime) -> Result<(), Fail> {
+    let technology = faultless(rt.alloc(), "#5=MILLING_TECHNOLOGY(0.005,.TCP.,$,-12.);")?;
     let [Value::Num(feed), Value::Num(speed)] = technology.values.as_slice() else {
         return Err(Fail::from("no feed and speed"));
     };
     assert_eq!(rt; (*feed, *speed), (300, 720));
-    let Ok(point) = shown(rt.alloc(), "#5=CARTESIAN_POINT('',(LENGTH(-0.0005),2.));")? else {
-        return Err(Fail::from("no point"));
-    };
+    // The same by a place, and nothing past the end.
+    assert_eq!(rt; (technology.num(1), technology.num(2)), (Some(720), None));
+    Ok(())
+}
+
+#[test]
+fn gives_coordinates(rt: HostRuntime) -> Result<(), Fail> {
+    let point = faultless(rt.alloc(), "#5=CARTESIAN_POINT('',(LENGTH(-0.0005),2.));")?;
     let [Value::Triple(x, y, z)] = point.values.as_slice() else {
         return Err(Fail::from("no coordinates"));
     };
     assert_eq!(rt; (*x, *y, *z), (-1, 2_000, 0));
-    let Ok(line) = shown(rt.alloc(), "#5=POLYLINE('',(#1,#2,#3,#4,#5,#6,#7,#8,#9));")? else {
-        return Err(Fail::from("no line"));
-    };
-    let [Value::Many(refs)] = line.values.as_slice() else {
-        return Err(Fail::from("no points"));
-    };
-    assert_eq!(rt; refs.as_slice(), [1, 2, 3, 4, 5, 6, 7, 8, 9].as_slice());
-    // The same by places, and nothing of another form or past the end.
-    assert_eq!(rt; (technology.num(1), technology.num(2)), (Some(720), None));
+    // The same by its place, and nothing of another form.
     let wanted = Triple {
         x: -1,
         y: 2_000,
         z: 0,
     };
     assert_eq!(rt; (point.triple(0), point.num(0)), (Some(wanted), None));
+    Ok(())
+}
+
+#[test]
+fn gives_lists_of_references(rt: HostRuntime) -> Result<(), Fail> {
+    let line = faultless(rt.alloc(), "#5=POLYLINE('',(#1,#2,#3,#4,#5,#6,#7,#8,#9));")?;
+    let [Value::Many(refs)] = line.values.as_slice() else {
+        return Err(Fail::from("no points"));
+    };
+    assert_eq!(rt; refs.as_slice(), [1, 2, 3, 4, 5, 6, 7, 8, 9].as_slice());
+    // The same by its place, and nothing of another form or past the end.
     assert_eq!(rt; (line.many(0).len(), line.many(1).len()), (9, 0));
     assert_eq!(rt; (line.one(0), line.triple(0)), (None, None));
-    let Ok(variable) = shown(rt.alloc(), "#5=NC_VARIABLE('deep',$);")? else {
-        return Err(Fail::from("no variable"));
-    };
+    Ok(())
+}
+
+#[test]
+fn gives_texts_and_references(rt: HostRuntime) -> Result<(), Fail> {
+    let variable = faultless(rt.alloc(), "#5=NC_VARIABLE('deep',$);")?;
     assert_eq!(rt; variable.text(0), b"deep".as_slice());
     assert_eq!(rt; (variable.text(1).len(), variable.num(1)), (0, None));
-    let Ok(plane) = shown(rt.alloc(), "#5=PLANE('',#7);")? else {
-        return Err(Fail::from("no plane"));
-    };
+    let plane = faultless(rt.alloc(), "#5=PLANE('',#7);")?;
     assert_eq!(rt; plane.one(0), Some(7));
     Ok(())
 }
