@@ -1,4 +1,4 @@
--- MEANING: the parameters that fields stand for (this project's own).
+-- PRIVATE: the parameters that fields stand for (the code's own words).
 use Rattle.std.specs.Prelude.{map}
 use Rattle.sn_p21.specs.declared.file.Param.{Param}
 use Rattle.sn_p21.specs.declared.file.Param.TheVariants as param

@@ -1,4 +1,4 @@
-use Rattle.std.proofs.Common.{◌≡◌, ◌<◌, ◌∙◌, Some, ap, inl, refl, length, sym, arith}
+use Rattle.std.proofs.Common.{◌<◌, ◌∙◌, Some, ap, inl, refl, length, sym, arith}
 use Rattle.std.proofs.lemmas.Bool.Decides.{nat_tests}
 use Rattle.std.proofs.lemmas.List.Elements.{Contains-get_or}
 use Rattle.sn_entity.specs.declared.row.RowId.TheVariants.{MachiningWorkingstep}
