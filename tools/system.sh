@@ -70,6 +70,11 @@ empty_streams() {
   : > "$folder/err"
 }
 
+# The end of a program: the lines behind the last motion of the sample part's program.
+program_end() {
+  tail -n +14 "$sample_text"
+}
+
 # padded BYTES: the sample part behind a comment, in so many bytes.
 padded() {
   printf '/*'
@@ -177,10 +182,10 @@ check_parts() {
     's/#6=BLOCK(.raw.,#11,20\.,20\.,10\.)/#6=(BLOCK('"'raw'"',#11,20,+20.0,10.E0))/' 's/(8\.,\$);/(8,$);/'
   wants 'another layout' 0 program ''
   compile_changed 1000 's/(#4)/()/'
-  printf '%%\nG21 G90 G17 G94 G40 G61\nM2\n%%\n' > "$folder/empty.ngc"
+  { head -n 2 "$sample_text" && program_end; } > "$folder/empty.ngc"
   wants 'no steps' 0 "@$folder/empty.ngc" ''
   compile_changed 1000 's/(#4)/(#4,#4)/'
-  sed '/^M2/i (WS #4)' "$sample_text" > "$folder/again.ngc"
+  sed '13a (WS #4)' "$sample_text" > "$folder/again.ngc"
   wants 'a step twice: nothing is left for the second time' 0 "@$folder/again.ngc" ''
   compile_text "${front}${back}"
   wants 'no project' 1 nothing 'stepmill: part: no project'
@@ -217,7 +222,8 @@ check_pocket() {
       [ "$y" = 8:32 ] || printf 'G1 X%d.000 Y%d.000\n' $((40 - ${y#*:})) "${y%:*}"
       printf 'G1 X%d.000 Y%d.000\n' "${y#*:}" "${y%:*}"
     done
-    printf 'G0 Z20.000\nM2\n%%\n'
+    printf 'G0 Z20.000\n'
+    program_end
   } > "$folder/pocket.ngc"
   wants 'a pocket' 0 "@$folder/pocket.ngc" ''
 }
@@ -236,7 +242,8 @@ check_slot() {
   {
     head -n 8 "$sample_text"
     printf 'G0 Z20.000\nG0 X15.000 Y15.000\nG0 Z13.000\nG1 Z10.000\nG1 X40.000 Y15.000\nG1 X55.000 Y35.000\nG0 Z20.000\n'
-    printf 'G0 X15.000 Y15.000\nG0 Z11.000\nG1 Z8.000\nG1 X40.000 Y15.000\nG1 X55.000 Y35.000\nG0 Z20.000\nM2\n%%\n'
+    printf 'G0 X15.000 Y15.000\nG0 Z11.000\nG1 Z8.000\nG1 X40.000 Y15.000\nG1 X55.000 Y35.000\nG0 Z20.000\n'
+    program_end
   } > "$folder/slot.ngc"
   wants 'a slot' 0 "@$folder/slot.ngc" ''
   cp "$folder/changed.stp" "$folder/slot.stp"
@@ -254,7 +261,8 @@ check_drill() {
   compile_changed 1000 "${drill[@]}"
   {
     head -n 11 "$sample_text"
-    printf 'G1 Z-4.000\nG1 Z0.000\nG0 Z20.000\nM2\n%%\n'
+    printf 'G1 Z-4.000\nG1 Z0.000\nG0 Z20.000\n'
+    program_end
   } > "$folder/drill.ngc"
   wants 'a drill with a point' 0 "@$folder/drill.ngc" ''
   run verify "$folder/changed.stp" "$folder/drill.ngc" --cell 1000
@@ -352,7 +360,7 @@ check_verdicts() {
   verdict 'another layout' 0 'yes' 's/^G0 Z20/n10 g 0 z +2 0/' 's/F300/(feed) F0300.0/' 's/$/\r/'
   verdict 'a plunge in rapid' 6 'no: line 12: rapid in material at i 10 j 6 z 4000' '12s/G1/G0/'
   verdict 'no plunge' 6 'no: #8 uncovered at i 10 j 9 z 4000' '11,12d'
-  verdict 'no end' 6 'no: no end' '14d'
+  verdict 'no end' 6 'no: no end' '/^M2$/d'
   verdict 'a lost axis' 6 'no: line 9: lost axis' '9s/Z20.000/X10.000/'
   verdict 'a deeper plunge' 6 'no: line 12: gouge at i 10 j 6 z 3999' '12s/Z4.000/Z3.999/'
   verdict 'no mark' 6 'no: line 11: feed before a mark' '4d'

@@ -16,7 +16,6 @@ use Rattle.sn_words.specs.Options.{IsBox}
 use Rattle.sn_feature.specs.Placement.{placement_of, composed_at}
 use Rattle.sn_feature.specs.Refusal.{◌>>=◌}
 use Rattle.sn_flow.specs.Setup.{box_of_corners, applied_at, far_corner, block_box}
-use Rattle.sn_flow.specs.SetupLaws.{IsBetween, zero as origin}
 use Rattle.sn_flow.specs.Sides.{HasSides, box_at}
 
 -- Signed units.

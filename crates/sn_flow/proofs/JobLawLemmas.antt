@@ -1,7 +1,6 @@
 -- Laws of jobs.
-use Rattle.std.proofs.Common.{◌≡◌, ◌≢◌, refl, sym, ◌∙◌, ap, subst, ℕ, zero, suc, ℤ, ◌≤◌, Bool, true, false, List, [], ◌∷◌, map, length, get_or, Option, Some, None, min, arith}
-use Rattle.std.specs.Prelude.{Result, Ok, Err, IfErr, nat_eq, nat_le, int_lt, unsigned_abs, unwrap_or, if◌then◌else◌}
-use Rattle.std.specs.List.{Contains, filter, fold, reduce, Any}
+use Rattle.std.proofs.Common.{◌≡◌, ◌≢◌, refl, sym, ◌∙◌, ap, subst, ℕ, ℤ, Bool, true, false, List, [], ◌∷◌, map, Option, Some, None}
+use Rattle.std.specs.Prelude.{Result, Ok, Err, IfErr, int_lt, if◌then◌else◌}
 use Rattle.sn_model.specs.ModelContent.{ModelContent}
 use Rattle.sn_frame.specs.declared.frame.FrameFault.{FrameFault}
 use Rattle.sn_frame.specs.Frame.{Transform}
@@ -28,7 +27,7 @@ use Rattle.sn_flow.specs.Setup.{workpiece_frame, raw_block, block_box, security_
 use Rattle.sn_flow.specs.Steps.{step_among}
 use Rattle.sn_flow.specs.JobOf.{box_of_block, raw_box, not_below, all_parts, job_with, job_of}
 use Rattle.sn_flow.specs.JobOfLaws.{NoOtherFault, StepsAreExecuted, GivenBoxIsUsed}
-use Rattle.sn_flow.proofs.PartsLemmas.{AreFirst, first_of_all, step_is, ws_of_step}
+use Rattle.sn_flow.proofs.PartsLemmas.{first_of_all, step_is, ws_of_step}
 
 -- Faults.
 

@@ -1,7 +1,7 @@
 -- The steps that are made of the parts of executed steps keep the rule of jobs.
-use Rattle.std.proofs.Common.{◌≡◌, ◌↔◌, refl, sym, ◌∙◌, ap, subst, ℕ, ℤ, zero, suc, ◌+◌, ◌*◌, ◌<◌, ◌≤◌, Bool, min, List, [], ◌∷◌, map, length, get_or, Option, Some, None, arith}
+use Rattle.std.proofs.Common.{◌≡◌, refl, sym, ◌∙◌, ap, subst, ℕ, ℤ, zero, suc, ◌*◌, ◌<◌, ◌≤◌, min, List, [], ◌∷◌, map, length, get_or, Option, Some, None, arith}
 use Rattle.std.specs.Prelude.{nat_eq, unwrap_or, IfSome}
-use Rattle.std.specs.List.{All, Any, Contains, filter, fold, reduce}
+use Rattle.std.specs.List.{All, Contains, filter, fold, reduce}
 use Rattle.std.proofs.lemmas.List.{length-map}
 use Rattle.std.proofs.lemmas.List.Elements.{All-filter, All-map, All-head, Contains-get_or}
 use Rattle.sn_geom.specs.declared.limits.TheConstants.{REACH, MOST_DIAMETER}
@@ -10,10 +10,10 @@ use Rattle.sn_geom.specs.declared.units.Pt3.{Pt3}
 use Rattle.sn_outline.specs.JobRule.{IsProper, AreNumbered, HaveOneBody, HaveOneFeature, IsSameFeature, IsSecurityHeight, IsJob, KeepRule}
 use Rattle.sn_words.specs.Options.{IsBox, IsPitch as WordPitch}
 use Rattle.sn_feature.specs.declared.parts.StepParts.{StepParts}
-use Rattle.sn_feature.specs.Step.{AreProper, HasCorner}
+use Rattle.sn_feature.specs.Step.{AreProper}
 use Rattle.sn_flow.specs.PartsRule.{IsSamePlace, KeepPartsRule}
 use Rattle.sn_flow.specs.Steps.{tools_of, least_diameter, corner_among, step_among}
-use Rattle.sn_flow.specs.Tools.{first_uses, number_in}
+use Rattle.sn_flow.specs.Tools.{number_in}
 use Rattle.sn_flow.proofs.ToolLemmas.{numbers_filled, numbers_differ}
 
 -- Elements of lists.

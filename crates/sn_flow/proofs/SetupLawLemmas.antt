@@ -1,6 +1,6 @@
 -- Laws of the workpiece, the raw box and the security height.
-use Rattle.std.proofs.Common.{◌≡◌, ◌≢◌, ◌⊎◌, ◌↔◌, refl, sym, ◌∙◌, ap, subst, inl, inr, ℕ, zero, suc, ◌<◌, ℤ, pos, negsuc, ◌+ℤ◌, ◌*ℤ◌, ◌≤ℤ◌, Bool, true, false, IsTrue, List, [], ◌∷◌, ◌++◌, map, length, Option, Some, None, arith}
-use Rattle.std.specs.Prelude.{Result, Ok, Err, nat_eq, cond, unwrap_or, if◌then◌else◌}
+use Rattle.std.proofs.Common.{◌≡◌, ◌≢◌, ◌⊎◌, ◌↔◌, refl, sym, ◌∙◌, ap, inl, inr, ℕ, suc, ℤ, pos, ◌+ℤ◌, ◌*ℤ◌, ◌≤ℤ◌, Bool, true, false, IsTrue, List, [], ◌∷◌, ◌++◌, Option, Some, None, arith}
+use Rattle.std.specs.Prelude.{Result, Ok, nat_eq, unwrap_or, if◌then◌else◌}
 use Rattle.std.specs.Int.{int_min, int_max}
 use Rattle.std.specs.List.{All, Contains, find, fold, reduce}
 use Rattle.std.specs.Option.{option_map, option_or, option_and_then}
@@ -12,12 +12,11 @@ use Rattle.sn_geom.proofs.Ring.{sums, expand}
 use Rattle.sn_model.specs.ModelContent.{ModelContent}
 use Rattle.sn_refs.specs.Reference.{names_block}
 use Rattle.sn_frame.specs.declared.frame.FrameFault.{FrameFault}
-use Rattle.sn_frame.specs.Matrix.{Vector, dot_product, row_x, row_y, row_z, IsSignedUnit, IsSignedRotation}
+use Rattle.sn_frame.specs.Matrix.{Vector, dot_product, row_x, row_y, row_z, IsSignedUnit}
 use Rattle.sn_frame.specs.Frame.{Transform, applied, vector_of, identity}
 use Rattle.sn_walk.specs.Node.{main_setup}
 use Rattle.sn_feature.specs.Entities.{named, named_if}
-use Rattle.sn_feature.specs.Placement.{placement_of}
-use Rattle.sn_flow.specs.Setup.{workpiece_of, listed_of, workpiece_setup_of, placement_or_identity, workpiece_frame, block_if, block_of, raw_block_of, security_heights}
+use Rattle.sn_flow.specs.Setup.{workpiece_of, listed_of, workpiece_setup_of, placement_or_identity, workpiece_frame, block_if, block_of, security_heights}
 use Rattle.sn_flow.specs.SetupLaws.{FirstNamingTells, UnnamedStandsAtOrigin, BoundedByBlock, RawpieceFirst, OwnBlockElse, IsBetween, zero as origin, BlockInBox, GreatestOrRawTop}
 use Rattle.sn_flow.proofs.BoxLemmas.{HoldsOfUnits, of_unit, minus_one}
 

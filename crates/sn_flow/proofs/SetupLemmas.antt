@@ -1,5 +1,5 @@
 -- What the setup's instances name.
-use Rattle.std.proofs.Common.{◌≡◌, refl, sym, ◌∙◌, ap, subst, inl, inr, ℕ, suc, zero, ◌<◌, List, [], ◌∷◌, length, Option, Some, None, IfSome, IsTrue, arith}
+use Rattle.std.proofs.Common.{◌≡◌, refl, sym, ◌∙◌, ap, subst, inl, inr, ℕ, List, [], ◌∷◌, Option, Some, IfSome, IsTrue, arith}
 use Rattle.std.specs.Prelude.{slice_get}
 use Rattle.std.specs.List.{Contains}
 use Rattle.sn_entity.specs.declared.row.Group.TheVariants.{One as OneRow}
@@ -8,7 +8,7 @@ use Rattle.sn_entity.specs.declared.row.RowId.{RowId}
 use Rattle.sn_entity.specs.declared.row.RowId.TheVariants.{Block, Project, Workpiece}
 use Rattle.sn_entity.specs.declared.value.Fields.{Fields}
 use Rattle.sn_entity.specs.Given.{one_at}
-use Rattle.sn_entity.specs.Table.{reads_of, at, IsInGroup}
+use Rattle.sn_entity.specs.Table.{reads_of, at}
 use Rattle.sn_model.specs.declared.model.Entry.TheVariants.{Typed}
 use Rattle.sn_model.specs.Built.{IsModel}
 use Rattle.sn_model.specs.BuiltLaws.{ProjectHasRow}

@@ -1,15 +1,15 @@
 -- What is gathered over the steps of a job, with one more step.
-use Rattle.std.proofs.Common.{◌≡◌, refl, sym, ◌∙◌, ap, ℕ, ◌+◌, ◌<◌, ◌≤◌, Bool, true, false, cond, min, List, [], ◌∷◌, ◌++◌, map, length, get_or, take, drop, Option, Some, None, append-nil, arith}
+use Rattle.std.proofs.Common.{◌≡◌, refl, sym, ◌∙◌, ap, ℕ, ◌+◌, ◌<◌, ◌≤◌, Bool, true, false, cond, min, List, [], ◌∷◌, ◌++◌, map, length, get_or, take, Some, append-nil, arith}
 use Rattle.std.specs.Prelude.{nat_eq}
-use Rattle.std.specs.List.{filter, fold, reduce, position_or_len}
+use Rattle.std.specs.List.{filter, reduce}
 use Rattle.std.proofs.lemmas.List.Elements.{filter-append}
 use Rattle.std.proofs.lemmas.List.{length-map}
-use Rattle.std.proofs.lemmas.Grind.{common_steps, fold-append, take_at_read}
+use Rattle.std.proofs.lemmas.Grind.{fold-append, take_at_read}
 use Rattle.sn_feature.specs.declared.parts.StepParts.{StepParts}
 use Rattle.sn_outline.specs.declared.job.StepJob.{StepJob}
 use Rattle.sn_flow.specs.Steps.{tools_of, corner_among, step_among}
 use Rattle.sn_feature.specs.Step.{step_with}
-use Rattle.sn_flow.specs.Tools.{first_uses, number_in}
+use Rattle.sn_flow.specs.Tools.{number_in}
 use Rattle.sn_flow.specs.Gathered.{used_then, lesser_of, lesser_with, least_of}
 use Rattle.sn_flow.proofs.ToolLemmas.{first_uses-push, few_first_uses}
 

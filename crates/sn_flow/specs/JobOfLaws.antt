@@ -11,7 +11,6 @@ use Rattle.sn_walk.specs.Walk.{executed_of}
 use Rattle.sn_feature.specs.declared.fault.StepFault.{StepFault}
 use Rattle.sn_feature.specs.declared.parts.StepParts.{StepParts}
 use Rattle.sn_feature.specs.Step.{step_of}
-use Rattle.sn_flow.specs.declared.fault.JobFault.{JobFault}
 use Rattle.sn_flow.specs.declared.fault.JobFault.TheVariants.{Frame, RawUnknown, SecLow, GridTooBig, TooSmall, Memory}
 use Rattle.sn_flow.specs.Faults.{of_walk, of_step}
 use Rattle.sn_flow.specs.Setup.{workpiece_frame, raw_block, block_box, security_height}

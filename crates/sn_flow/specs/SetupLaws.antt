@@ -1,14 +1,13 @@
 -- Laws of the workpiece, the raw box and the security height (this project's own).
-use Rattle.std.specs.Prelude.{◌≡◌, ◌≢◌, ◌↔◌, ℕ, ℤ, pos, ◌≤ℤ◌, IsTrue, List, [], ◌∷◌, ◌++◌, Option, Some, None, Ok}
+use Rattle.std.specs.Prelude.{◌≡◌, ◌≢◌, ◌↔◌, ℕ, ℤ, pos, ◌≤ℤ◌, IsTrue, List, [], ◌∷◌, ◌++◌, Some, None, Ok}
 use Rattle.std.specs.List.{All, Contains}
 use Rattle.sn_geom.specs.declared.units.Pt3.{Pt3}
 use Rattle.sn_model.specs.ModelContent.{ModelContent}
 use Rattle.sn_refs.specs.Reference.{names_block}
 use Rattle.sn_frame.specs.Matrix.{IsSignedRotation}
 use Rattle.sn_frame.specs.Frame.{Transform, applied, identity}
-use Rattle.sn_words.specs.declared.options.RawBox.{RawBox}
 use Rattle.sn_walk.specs.Node.{main_setup}
-use Rattle.sn_feature.specs.Entities.{named, named_if, listed}
+use Rattle.sn_feature.specs.Entities.{named, named_if}
 use Rattle.sn_feature.specs.Placement.{placement_of}
 use Rattle.sn_flow.specs.Setup.{workpiece_of, listed_of, workpiece_frame, block_of, raw_block_of, box_of_corners, security_heights, security_height}
 

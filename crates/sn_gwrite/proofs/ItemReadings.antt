@@ -5,7 +5,7 @@ use Rattle.std.specs.Prelude.{not, filter, Option, None}
 use Rattle.sn_geom.specs.declared.block.TheConstants.{MOST_LINE}
 use Rattle.sn_geom.specs.declared.machine.Word.{Word}
 use Rattle.sn_geom.specs.LineText.{Item, Kind, Place, Said, Says, LineText, is_blank, IsPercentLine, bad_char, bad_number, too_fine, out_of_range, twice, same_group, unsupported, open_comment, is_faulty, said_with, said_from, nothing, items_of, items_from, item_at, place_after}
-use Rattle.sn_gwrite.specs.Forms.{g}
+use Rattle.sn_gwrite.specs.Program.{g}
 
 abbrev pub are_false : (a b c d e f g h : Bool) → Bool
 are_false a b c d e f g h = not a && (not b && (not c && (not d && (not e && (not f && (not g && not h))))))

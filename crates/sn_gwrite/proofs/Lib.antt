@@ -1,6 +1,5 @@
 pub mod CommentReadings
 pub mod Digits
-pub mod FormLines
 pub mod FormReadings
 pub mod ItemReadings
 pub mod LineRuns

@@ -1,16 +1,18 @@
 -- The lines of forms, one after the other: how they are read, and how the machine runs them.
-use Rattle.std.proofs.Common.{ℕ, ◌≡◌, ◌<◌, ◌^◌, List, [], ◌∷◌, ◌++◌, map, codes, decimal, None, refl, sym, ap, subst, ◌∙◌, arith, append_assoc, append-nil, inr}
+use Rattle.std.proofs.Common.{ℕ, ◌≡◌, ◌<◌, ◌^◌, Bool, true, ◌&&◌, List, [], ◌∷◌, ◌++◌, map, codes, decimal, Option, Some, None, refl, sym, ap, subst, ◌∙◌, arith, append_assoc, append-nil, inl, inr}
+use Rattle.std.proofs.lemmas.Bool.{and_parts}
+use Rattle.std.specs.Prelude.{is_none}
+use Rattle.sn_geom.specs.declared.machine.MachFault.{MachFault}
 use Rattle.sn_geom.specs.Acts.{Act, act_list, RunsTo}
-use Rattle.sn_geom.specs.Block.{lines_of}
+use Rattle.sn_geom.specs.Block.{Block, lines_of}
 use Rattle.sn_geom.specs.LineText.{LineText}
 use Rattle.sn_geom.specs.Machine.{State, fault_of, acts_of, state_after, state_after_all}
 use Rattle.sn_geom.specs.Meaning.{AreBlocks, IsWholeLines}
 use Rattle.sn_gwrite.specs.Agreement.{Agrees, PartMeans}
-use Rattle.sn_gwrite.specs.Forms.{Form, ToolNote, form_text, form_block}
+use Rattle.sn_gwrite.specs.Program.{Form, ToolNote, form_text, form_block, AreProper, forms_text}
+use Rattle.sn_gwrite.specs.ProgramLaws.{IsTextOf}
 use Rattle.sn_gwrite.specs.Kept.{Kept}
-use Rattle.sn_gwrite.specs.PartForms.{AreProper, forms_text}
-use Rattle.sn_gwrite.proofs.FormLines.{IsOneLine, form_line, first_line, one_line_append, decimal_line}
-use Rattle.sn_gwrite.proofs.FormReadings.{forms-read, note_read}
+use Rattle.sn_gwrite.proofs.FormReadings.{IsOneLine, form_line, first_line, one_line_append, decimal_line, forms-read, note_read}
 
 -- the text of the form is a line that is read as its block
 pub record IsRead (form : Form) : Type 0 where
@@ -56,26 +58,34 @@ pub record Ran (state : State) (forms : List Form) (acts : List Act) (kept : Kep
   pub runs : RunsTo state (map form_block forms) acts
   pub agrees : Agrees kept (state_after_all state (map form_block forms))
 
+whole_lines : (forms : List Form) → IsWholeLines (forms_text forms)
+whole_lines [] = inl refl
+whole_lines (form ∷ forms) = inr (ends_line form forms)
+
 -- a part that is the text of forms which are read and which the machine runs
-pub part_means : (old new : Kept) (text : List ℕ) (form : Form) (forms : List Form) (acts : List Act)
-    → text ≡ forms_text (form ∷ forms) → AreRead (form ∷ forms)
-    → ((state : State) → Agrees old state → Ran state (form ∷ forms) acts new) → PartMeans old new text acts
-part_means old new text form forms acts is read runs = record {
-  lines = subst IsWholeLines (sym is) (inr (ends_line form forms));
+pub read_part_means : (old new : Kept) (text : List ℕ) (forms : List Form) (acts : List Act) → text ≡ forms_text forms → AreRead forms
+    → ((state : State) → Agrees old state → Ran state forms acts new) → PartMeans old new text acts
+read_part_means old new text forms acts is read runs = record {
+  lines = subst IsWholeLines (sym is) (whole_lines forms);
   means = λ state agrees.
       let ran = runs state agrees in
-      let blocks = map form_block (form ∷ forms) in
+      let blocks = map form_block forms in
       record {
         after = state_after_all state blocks;
         means = record {
           blocks = blocks;
-          says = subst (λ (t : List ℕ). AreBlocks (lines_of t) blocks) (sym is) (blocks_read (form ∷ forms) read);
+          says = subst (λ (t : List ℕ). AreBlocks (lines_of t) blocks) (sym is) (blocks_read forms read);
           runs = ran.runs;
           ends = refl;
         };
         agrees = ran.agrees;
       };
 }
+
+-- a part that is the text of any proper forms which the machine runs
+pub part_means : (old new : Kept) (text : List ℕ) (forms : List Form) (acts : List Act) → IsTextOf text forms
+    → ((state : State) → Agrees old state → Ran state forms acts new) → PartMeans old new text acts
+part_means old new text forms acts is runs = read_part_means old new text forms acts is.written (proper_read forms is.proper) runs
 
 -- ---- lines that the machine runs
 
@@ -105,3 +115,23 @@ line_before state middle form forms some others kept r later = record {
   );
   agrees = subst (λ s. Agrees kept (state_after_all s (map form_block forms))) (sym r.leads) later.agrees;
 }
+
+-- ---- lines that are run by computing
+
+abbrev pub are_accepted : State → List Block → Bool
+are_accepted s [] = true
+are_accepted s (b ∷ bs) = is_none (fault_of s b) && are_accepted (state_after s b) bs
+
+abbrev pub acts_of_all : State → List Block → List Act
+acts_of_all s [] = []
+acts_of_all s (b ∷ bs) = act_list (acts_of s b) ++ acts_of_all (state_after s b) bs
+
+is_none-true : (fault : Option MachFault) → is_none fault ≡ true → fault ≡ None
+is_none-true None h = refl
+is_none-true (Some fault) h = cc
+
+pub blocks_are_run : (s : State) (blocks : List Block) → are_accepted s blocks ≡ true → RunsTo s blocks (acts_of_all s blocks)
+blocks_are_run s [] h = refl
+blocks_are_run s (b ∷ bs) h =
+    let (first, later) = and_parts (is_none (fault_of s b)) (are_accepted (state_after s b) bs) h in
+    (is_none-true (fault_of s b) first, (acts_of_all (state_after s b) bs, refl, blocks_are_run (state_after s b) bs later))

@@ -4,6 +4,7 @@ use Rattle.std.proofs.lemmas.Bool.Decides.{Decides-int_eq}
 use Rattle.std.specs.Ordering.{int_eq}
 use Rattle.std.specs.Fmt.{digits}
 use Rattle.std.specs.Prelude.{All}
+use Rattle.sn_geom.specs.declared.limits.TheConstants.{REACH}
 use Rattle.sn_geom.specs.Acts.{Act, Mark, PutTool, Enter, Locate, Rapid, Feed, End}
 use Rattle.sn_geom.specs.Meaning.{Means}
 use Rattle.sn_geom.specs.declared.units.Pt3.{Pt3}
@@ -16,7 +17,7 @@ use Rattle.sn_gwrite.specs.Length.{length_text}
 use Rattle.sn_gwrite.specs.Program.{head_text, tools_text, tool_text, mark_text, change_text, rates_text, motion_text, end_text}
 use Rattle.sn_gwrite.proofs.PartMeanings.{head_means, mark_means, change_means, rates_mean, rapid_means, feed_means, end_means, parts_mean_in_turn, parts_are_program}
 
-place : (z : ℕ) → z < 2000000 → IsPoint (over z)
+place : (z : ℕ) → z < REACH → IsPoint (over z)
 place z low = record { x = omega arith; y = omega arith; z = omega arith }
 
 both : {old kept new : Kept} {front back : List ℕ} {some others : List Act} → PartMeans old kept front some → PartMeans kept new back others

@@ -7,12 +7,10 @@ use Rattle.sn_geom.specs.declared.units.Pt3.{Pt3}
 use Rattle.sn_geom.specs.declared.tip.MotionMode.{MotionMode}
 use Rattle.sn_geom.specs.declared.tip.Tip.{Tip}
 use Rattle.sn_geom.specs.declared.tip.Tip.TheVariants.{Unknown, Height, At}
-use Rattle.sn_gwrite.specs.Forms.{form_text, ToolNote, HeightMotion, PlaneMotion}
+use Rattle.sn_gwrite.specs.Program.{form_text, ToolNote, HeightMotion, PlaneMotion, AreProper, forms_text, tools_forms, head_forms, mark_forms, change_forms, rates_forms, motion_forms, end_forms, tool_text, tools_text, head_text, mark_text, change_text, rates_text, motion_text, end_text, mode_text}
 use Rattle.sn_gwrite.specs.Kept.{IsToolNumber, IsRate}
 use Rattle.sn_gwrite.specs.Length.{length_text}
-use Rattle.sn_gwrite.specs.PartForms.{AreProper, forms_text, tools_forms, head_forms, mark_forms, change_forms, rates_forms, motion_forms, end_forms}
-use Rattle.sn_gwrite.specs.PartFormsLaws.{IsTextOf}
-use Rattle.sn_gwrite.specs.Program.{tool_text, tools_text, head_text, mark_text, change_text, rates_text, motion_text, end_text, mode_text}
+use Rattle.sn_gwrite.specs.ProgramLaws.{IsTextOf}
 
 tool_line : (a b c d e rest : List ℕ)
     → (a ++ b ++ c ++ d ++ (e ++ 10 ∷ [])) ++ rest ≡ (a ++ b ++ c ++ d ++ e) ++ 10 ∷ rest
@@ -79,4 +77,4 @@ motion-forms mode (At from) to x y z = from_place mode from to (int_eq from.z to
 
 pub end-forms : IsTextOf end_text end_forms
 unfolding end_text
-end-forms = record { written = refl; proper = (tt, (tt, tt)) }
+end-forms = record { written = refl; proper = search }

@@ -8,13 +8,11 @@ use Rattle.sn_geom.proofs.Meanings.{mean_in_turn, nothing_means_nothing, ended_t
 use Rattle.sn_geom.specs.declared.tip.MotionMode.TheVariants as mode
 use Rattle.sn_gwrite.specs.Agreement.{AgreesAt, Agrees, PartMeans, motion_act}
 use Rattle.sn_gwrite.specs.AgreementLaws.{HeadMeans, MarkMeans, ChangeMeans, RatesMean, RapidMeans, FeedMeans, EndMeans, PartsMeanInTurn, NoPartMeansNothing, PartsAreProgram, StatesAgreeByStage, KeptStays, UnusedIsKept}
-use Rattle.sn_gwrite.specs.Forms.{PercentSign, AllModes, StepMark, ToolChange, LengthOffset, SpindleSpeed, FeedRate, ProgramEnd}
+use Rattle.sn_gwrite.specs.Program.{PercentSign, AllModes, tools_forms, head_forms, mark_forms, change_forms, rates_forms, motion_forms, end_forms, head_text, mark_text, change_text, rates_text, motion_text, end_text}
 use Rattle.sn_gwrite.specs.Kept.{Kept, unused, begun, with_tool, with_rates, moved, ended}
 use Rattle.sn_gwrite.specs.declared.kept.Stage.{Stage}
 use Rattle.sn_gwrite.specs.declared.kept.Stage.TheVariants.{Unused, Begun, Ended, Failed}
-use Rattle.sn_gwrite.specs.PartForms.{tools_forms, motion_form}
-use Rattle.sn_gwrite.specs.Program.{head_text, mark_text, change_text, rates_text, motion_text, end_text}
-use Rattle.sn_gwrite.proofs.LineRuns.{AreRead, proper_read, note_is_read, part_means}
+use Rattle.sn_gwrite.proofs.LineRuns.{AreRead, proper_read, note_is_read, read_part_means, part_means}
 use Rattle.sn_gwrite.proofs.PartLines.{head-text, mark-forms, change-forms, rates-forms, motion-forms, end-forms}
 use Rattle.sn_gwrite.proofs.PartRuns.{head_run, mark_run, change_run, rates_run, rapid_run, feed_run, end_run}
 
@@ -28,44 +26,34 @@ notes_read number (t ∷ ts) few each =
 pub head_means : HeadMeans
 head_means tools few each =
     let first = proper_read (PercentSign ∷ AllModes ∷ []) (tt, (tt, tt)) in
-    part_means unused (begun unused) (head_text tools) PercentSign (AllModes ∷ tools_forms 1 tools) [] (head-text tools)
+    read_part_means unused (begun unused) (head_text tools) (head_forms tools) [] (head-text tools)
     (first.0, (first.1.0, notes_read 1 tools (omega arith) each)) (head_run tools)
 
 pub mark_means : MarkMeans
 mark_means kept ws is low high =
-    let text = mark-forms ws low high in
-    part_means kept kept (mark_text ws) (StepMark ws) [] (Mark ws ∷ []) text.written (proper_read (StepMark ws ∷ []) text.proper) (mark_run kept ws is)
+    part_means kept kept (mark_text ws) (mark_forms ws) (Mark ws ∷ []) (mark-forms ws low high) (mark_run kept ws is)
 
 pub change_means : ChangeMeans
 change_means kept k is number =
-    let text = change-forms k number in
-    part_means kept (with_tool kept k) (change_text k) (ToolChange k) (LengthOffset k ∷ []) (PutTool k ∷ []) text.written
-    (proper_read (ToolChange k ∷ LengthOffset k ∷ []) text.proper) (change_run kept k is number)
+    part_means kept (with_tool kept k) (change_text k) (change_forms k) (PutTool k ∷ []) (change-forms k number) (change_run kept k is number)
 
 pub rates_mean : RatesMean
 rates_mean kept speed feed is h k =
-    let text = rates-forms speed feed h k in
-    part_means kept (with_rates kept speed feed) (rates_text speed feed) (SpindleSpeed speed) (FeedRate feed ∷ []) [] text.written
-    (proper_read (SpindleSpeed speed ∷ FeedRate feed ∷ []) text.proper) (rates_run kept speed feed is)
+    part_means kept (with_rates kept speed feed) (rates_text speed feed) (rates_forms speed feed) [] (rates-forms speed feed h k)
+    (rates_run kept speed feed is)
 
 pub rapid_means : RapidMeans
 rapid_means kept to rule is has may point =
-    let form = motion_form mode.Rapid kept.tip to in
-    let text = motion-forms mode.Rapid kept.tip to point.x point.y point.z in
-    part_means kept (moved kept to) (motion_text mode.Rapid kept.tip to) form [] (motion_act mode.Rapid kept to ∷ []) text.written
-    (proper_read (form ∷ []) text.proper) (rapid_run kept to rule is has may)
+    part_means kept (moved kept to) (motion_text mode.Rapid kept.tip to) (motion_forms mode.Rapid kept.tip to) (motion_act mode.Rapid kept to ∷ [])
+    (motion-forms mode.Rapid kept.tip to point.x point.y point.z) (rapid_run kept to rule is has may)
 
 pub feed_means : FeedMeans
 feed_means kept to rule is has turn may point =
-    let form = motion_form mode.Feed kept.tip to in
-    let text = motion-forms mode.Feed kept.tip to point.x point.y point.z in
-    part_means kept (moved kept to) (motion_text mode.Feed kept.tip to) form [] (motion_act mode.Feed kept to ∷ []) text.written
-    (proper_read (form ∷ []) text.proper) (feed_run kept to rule is has turn may)
+    part_means kept (moved kept to) (motion_text mode.Feed kept.tip to) (motion_forms mode.Feed kept.tip to) (motion_act mode.Feed kept to ∷ [])
+    (motion-forms mode.Feed kept.tip to point.x point.y point.z) (feed_run kept to rule is has turn may)
 
 pub end_means : EndMeans
-end_means kept is =
-    part_means kept (ended kept) end_text ProgramEnd (PercentSign ∷ []) (End ∷ []) end-forms.written
-    (proper_read (ProgramEnd ∷ PercentSign ∷ []) end-forms.proper) (end_run kept is)
+end_means kept is = part_means kept (ended kept) end_text end_forms (End ∷ []) end-forms (end_run kept is)
 
 -- ---- parts in a row
 

@@ -1,10 +1,10 @@
 -- How the machine runs the lines of each part, from any state that agrees with what is kept.
-use Rattle.std.proofs.Common.{ℕ, ◌≡◌, ◌≢◌, ◌≤◌, ◌+◌, ⊎_elim, Bool, true, false, List, [], ◌∷◌, Option, None, Some, ℤ, refl, sym, ap, subst, ◌∙◌, arith}
+use Rattle.std.proofs.Common.{ℕ, ◌≡◌, ◌≢◌, ◌≤◌, ◌+◌, ⊎_elim, Bool, true, false, List, [], ◌∷◌, map, Option, None, Some, ℤ, refl, sym, ap, subst, ◌∙◌, arith}
 use Rattle.std.specs.Prelude.{◌==◌, IsSome, IfSome, unwrap_or}
 use Rattle.std.specs.Ordering.{int_eq}
 use Rattle.std.proofs.lemmas.Bool.{false_from_ne_true, eq-eqb}
 use Rattle.std.proofs.lemmas.Bool.Decides.{Decides-int_eq, nat_tests}
-use Rattle.sn_geom.specs.Acts.{Act, Mark, PutTool, Enter, Locate, Rapid, Feed, End}
+use Rattle.sn_geom.specs.Acts.{Act, Mark, PutTool, Enter, Locate, Rapid, Feed, End, RunsTo}
 use Rattle.sn_geom.specs.Machine.{State, start}
 use Rattle.sn_geom.specs.Tip.{tip_after}
 use Rattle.sn_geom.specs.declared.units.Pt3.{Pt3}
@@ -13,11 +13,10 @@ use Rattle.sn_geom.specs.declared.tip.MotionMode.TheVariants as mode
 use Rattle.sn_geom.specs.declared.tip.Tip.{Tip}
 use Rattle.sn_geom.specs.declared.tip.Tip.TheVariants.{Unknown, Height, At}
 use Rattle.sn_gwrite.specs.Agreement.{AgreesBetween, AgreesAt, Agrees, all_modes, motion_from, motion_act}
-use Rattle.sn_gwrite.specs.Forms.{Form, PercentSign, AllModes, ToolNote, StepMark, ToolChange, LengthOffset, SpindleSpeed, FeedRate, HeightMotion, PlaneMotion}
+use Rattle.sn_gwrite.specs.Program.{Form, PercentSign, AllModes, ToolNote, StepMark, ToolChange, LengthOffset, SpindleSpeed, FeedRate, HeightMotion, PlaneMotion, form_block, tools_forms, head_forms, change_forms, rates_forms, motion_form, end_forms}
 use Rattle.sn_gwrite.specs.Kept.{Kept, IsKept, IsBegun, HasTool, IsTurning, IsToolNumber, IsRate, MayRapid, MayFeed, IsStraight, unused, begun, with_tool, with_rates, moved, ended}
-use Rattle.sn_gwrite.specs.PartForms.{tools_forms, head_forms, change_forms, rates_forms, motion_form, end_forms}
 use Rattle.sn_gwrite.specs.declared.kept.Stage.{Stage}
-use Rattle.sn_gwrite.proofs.LineRuns.{Ran, Runs, one_line, line_before}
+use Rattle.sn_gwrite.proofs.LineRuns.{Ran, Runs, one_line, line_before, blocks_are_run}
 
 -- ---- states
 
@@ -106,7 +105,7 @@ head_run tools s agrees =
     subst (λ (state : State). Ran state (head_forms tools) [] (begun unused)) (sym agrees)
     (line_before start percent PercentSign (AllModes ∷ tools_forms 1 tools) [] [] (begun unused) (record { clean = refl; gives = refl; leads = refl }) modes)
 
--- ---- marks, tools, rates, the end
+-- ---- marks, tools, rates
 
 pub mark_run : (kept : Kept) (ws : ℕ) → IsBegun kept → (s : State) → Agrees kept s → Ran s (StepMark ws ∷ []) (Mark ws ∷ []) kept
 mark_run kept ws is = from_within kept kept (StepMark ws ∷ []) (Mark ws ∷ []) (λ motion chosen offset turning applied turns.
@@ -140,10 +139,17 @@ rates_run kept speed feed is = from_within kept (with_rates kept speed feed) (ra
     (agrees_between (with_rates kept speed feed) set is
     (within_agrees (with_rates kept speed feed) motion chosen offset true applied (λ turns. refl))))) is
 
+-- ---- the end
+
+-- whichever its lines are, from each state within a program
+pub end_runs : (motion : Option MotionMode) (feed speed chosen tool : Option ℕ) (offset turning : Bool) (tip : Tip)
+    → RunsTo (within motion feed speed chosen tool offset turning tip) (map form_block end_forms) (End ∷ [])
+end_runs motion feed speed chosen tool offset turning tip =
+    blocks_are_run (within motion feed speed chosen tool offset turning tip) (map form_block end_forms) refl
+
 pub end_run : (kept : Kept) → IsBegun kept → (s : State) → Agrees kept s → Ran s end_forms (End ∷ []) (ended kept)
 end_run kept is = from_within kept (ended kept) end_forms (End ∷ []) (λ motion chosen offset turning applied turns.
-    let state = within motion kept.feed kept.speed chosen kept.tool offset turning kept.tip in
-    record { runs = (refl, ([], refl, (refl, ([], refl, refl)))); agrees = refl }) is
+    record { runs = end_runs motion kept.feed kept.speed chosen kept.tool offset turning kept.tip; agrees = refl }) is
 
 -- ---- motions
 

@@ -10,7 +10,7 @@ use Rattle.sn_geom.specs.declared.machine.Word.{Word}
 use Rattle.sn_geom.specs.Length.{IsLength}
 use Rattle.sn_geom.specs.LineText.{Kind, Place, Said, Says, a_word, bad_char, bad_number, too_fine, out_of_range, twice, same_group, unsupported, open_comment, is_faulty, said_with, items_from, between, in_number, item_at, place_after, beginning, run, is_numeric, has_letter}
 use Rattle.sn_geom.specs.LineTable.{places_of, has_unit, is_within, is_accepted, is_modal, is_plain, modal_word, modal_words}
-use Rattle.sn_gwrite.specs.Forms.{word}
+use Rattle.sn_gwrite.specs.Program.{word}
 use Rattle.sn_gwrite.specs.Length.{length_text, last_digits}
 use Rattle.sn_gwrite.proofs.ShownLengths.{length_text-shown, length-last_digits}
 use Rattle.sn_gwrite.proofs.NumberWords.{AllNumeric, ShowsValue, run_over, whole_shows, length_shows}

@@ -6,10 +6,9 @@ use Rattle.sn_geom.specs.Meaning.{MeansFrom, Means}
 use Rattle.sn_geom.specs.declared.units.Pt3.{Pt3}
 use Rattle.sn_geom.specs.declared.tip.MotionMode.TheVariants as mode
 use Rattle.sn_gwrite.specs.Agreement.{Agrees, PartMeans, motion_act}
-use Rattle.sn_gwrite.specs.Forms.{PercentSign, form_block}
+use Rattle.sn_gwrite.specs.Program.{PercentSign, form_block, head_text, mark_text, change_text, rates_text, motion_text, end_text}
 use Rattle.sn_gwrite.specs.Kept.{Kept, IsKept, IsBegun, HasTool, IsTurning, IsToolNumber, IsRate, IsPoint, MayRapid, MayFeed, unused, begun, with_tool, with_rates, moved, ended}
 use Rattle.sn_gwrite.specs.declared.kept.Stage.TheVariants.{Unused, Begun, Ended, Failed}
-use Rattle.sn_gwrite.specs.Program.{head_text, mark_text, change_text, rates_text, motion_text, end_text}
 
 -- Each part, from what is kept before it to what is kept then.
 

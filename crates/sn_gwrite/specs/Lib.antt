@@ -1,10 +1,7 @@
 pub mod Agreement
 pub mod AgreementExamples
 pub mod AgreementLaws
-pub mod Forms
-pub mod FormsLaws
 pub mod Kept
 pub mod Length
-pub mod PartForms
-pub mod PartFormsLaws
 pub mod Program
+pub mod ProgramLaws

@@ -1,10 +1,9 @@
 //! Laws of the texts.
 
 ghost use Rattle.sn_gwrite.specs.Length.{LengthTextShowsLength, TextShowsOneLength};
-ghost use Rattle.sn_gwrite.specs.FormsLaws.{FormsAreRead};
+ghost use Rattle.sn_gwrite.specs.ProgramLaws.{FormsAreRead, FormsTextIsLines, HeadIsForms, MarkIsForms, ChangeIsForms, RatesIsForms, MotionIsForms, EndIsForms};
 ghost use Rattle.sn_gwrite.specs.AgreementExamples.{OneHoleMeans};
 ghost use Rattle.sn_gwrite.specs.AgreementLaws.{HeadMeans, MarkMeans, ChangeMeans, RatesMean, RapidMeans, FeedMeans, EndMeans, PartsMeanInTurn, NoPartMeansNothing, PartsAreProgram, StatesAgreeByStage, KeptStays, UnusedIsKept};
-ghost use Rattle.sn_gwrite.specs.PartFormsLaws.{FormsTextIsLines, HeadIsForms, MarkIsForms, ChangeIsForms, RatesIsForms, MotionIsForms, EndIsForms};
 
 /// The law that the text of a length, read as a decimal number of millimetres, is that length.
 pub fn length_text_shows_length()

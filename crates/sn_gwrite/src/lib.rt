@@ -17,3 +17,4 @@ pub use laws::{
     forms_are_read, forms_text_is_lines, kept_values, length_text_shows_length, parts_are_forms,
     parts_in_a_row, parts_mean, states_agree, text_shows_one_length,
 };
+pub use parts::END;

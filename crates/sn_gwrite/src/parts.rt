@@ -7,6 +7,9 @@ use crate::text::Text;
 use sn_geom::{MotionMode, Pt3, Tip};
 use sn_io::{Sink, WriteFault, write_all};
 
+/// The text of the end of a program.
+pub const END: &str = "M2\n%\n";
+
 /// Writes the percent line, the modes and the tools.
 #[tactic(auto, unfolding(crate::specs::Program::head_text))]
 pub fn write_head<S: Sink>(sink: &mut S, tools: &[u32]) -> Result<(), WriteFault>
@@ -110,5 +113,5 @@ fn mode_word(mode: MotionMode) -> &'static str
 pub fn write_end<S: Sink>(sink: &mut S) -> Result<(), WriteFault>
     ensures { Writes result (S.state sink.old) (S.state sink.new) end_text }
 {
-    write_all(sink, b"M2\n%\n")
+    write_all(sink, END.as_bytes())
 }

@@ -1,7 +1,7 @@
 -- Something stands next in the bytes: a token or a fault.
 use Rattle.std.proofs.Common.{◌≡◌, ℕ, zero, suc, ◌+◌, ◌-◌, ◌<◌, ◌≤◌, List, [], ◌∷◌, ◌++◌, length, take, drop, codes, length-append, refl, ap, ◌∙◌, inl, inr, ⊎_elim, arith}
 use Rattle.std.proofs.lemmas.Bool.{cases_lt}
-use Rattle.sn_lex.specs.Form.{IsSeparator, IsTextOf, IsFaultyText}
+use Rattle.sn_lex.specs.Form.{IsSeparator, IsFaultyText}
 use Rattle.sn_lex.specs.Reading.{IsForm, separator, token, fault, NoLongerForm, offset_of, IsNextToken, IsNextFault}
 use Rattle.sn_lex.specs.Split.{HasNoSeparator, LeavesSeparators}
 use Rattle.sn_lex.specs.declared.token.LexFault.{LexFault}

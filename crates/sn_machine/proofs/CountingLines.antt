@@ -1,6 +1,6 @@
 -- The fault of a line that counts: no closing percent line came before it, it is none itself, and it does not stand after
 -- the end.
-use Rattle.std.proofs.Common.{◌≡◌, Bool, false, ◌&&◌, refl}
+use Rattle.std.proofs.Common.{◌≡◌, false, ◌&&◌, refl}
 use Rattle.sn_geom.specs.Block.{Block}
 use Rattle.sn_geom.specs.Machine.{State, prepared, says_something, words_fault, fault_of}
 

@@ -1,8 +1,7 @@
 -- Calls of the machine line after line.
 use Rattle.std.proofs.Common.{◌≡◌, List, [], ◌∷◌, refl, sym, ◌∙◌, ap, subst}
-use Rattle.std.specs.Prelude.{Option, None, Some, Ok, Err}
+use Rattle.std.specs.Prelude.{None, Some, Ok}
 use Rattle.sn_geom.specs.declared.machine.Acts.{Acts}
-use Rattle.sn_geom.specs.declared.machine.MachFault.{MachFault}
 use Rattle.sn_geom.specs.Block.{Block}
 use Rattle.sn_geom.specs.Machine.{State, fault_of, acts_of, state_after, state_after_all, Runs}
 use Rattle.sn_machine.specs.StepLaws.{Steps, StepsThrough, StepsAreRuns}

@@ -1,12 +1,12 @@
 -- Private: only the functions of this crate cite these words. What a line does, part by part.
-use Rattle.std.specs.Prelude.{◌≡◌, ℕ, List, Bool, true, false, not, ◌&&◌, Option, Some, None, ℤ, pos, ◌||◌, unwrap_or, if◌then◌else◌}
+use Rattle.std.specs.Prelude.{ℕ, List, Bool, true, not, ◌&&◌, Option, Some, None, ℤ, pos, ◌||◌, unwrap_or, if◌then◌else◌}
 use Rattle.sn_geom.specs.declared.machine.Word.{Word}
 use Rattle.sn_geom.specs.declared.machine.Acts.{Acts}
 use Rattle.sn_geom.specs.declared.machine.Motion.{Motion}
 use Rattle.sn_geom.specs.declared.machine.Motion.TheVariants.{Enter, Locate, Rapid, Feed}
 use Rattle.sn_geom.specs.declared.units.Pt3.{Pt3}
 use Rattle.sn_geom.specs.Block.{z_of, has_axis, has_m, has_z_alone}
-use Rattle.sn_geom.specs.Machine.{State, prepared, words_fault, motion_of, no_acts, target, is_feed, stops, tip_after_words}
+use Rattle.sn_geom.specs.Machine.{State, motion_of, target, is_feed, stops, tip_after_words}
 
 -- where a motion ends that keeps or names the height, and names X and Y
 abbrev pub target_at_height : ℤ → List Word → Pt3

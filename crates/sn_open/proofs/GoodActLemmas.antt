@@ -18,17 +18,8 @@ use Rattle.sn_open.specs.VerdictLaws.{MarksAreInTurn, RightActsHaveNoCause, Good
 use Rattle.sn_open.specs.declared.verdict.Cause.{Cause}
 use Rattle.sn_open.specs.declared.verdict.Cause.TheVariants.{WrongMark, Early, OtherTool, OtherFeed, OtherSpeed, Gouge, Deep, Crash}
 use Rattle.sn_open.proofs.CauseLemmas.{one_step, LineFacts}
+use Rattle.sn_open.proofs.PassLemmas.{marks_append}
 use Rattle.sn_open.proofs.ProgramLineLemmas.{not_at_fault}
-
-pub marks_joined : (some others : List Act) → marks (some ++ others) ≡ marks some ++ marks others
-marks_joined [] others = refl
-marks_joined (Mark n ∷ acts) others = ap (λ l. n ∷ l) (marks_joined acts others)
-marks_joined (PutTool k ∷ acts) others = marks_joined acts others
-marks_joined (Enter z ∷ acts) others = marks_joined acts others
-marks_joined (Locate p ∷ acts) others = marks_joined acts others
-marks_joined (Rapid a b tool ∷ acts) others = marks_joined acts others
-marks_joined (Feed a b feed speed tool ∷ acts) others = marks_joined acts others
-marks_joined (End ∷ acts) others = marks_joined acts others
 
 abbrev pub own_mark : StepJob → ℕ
 own_mark step = step.ws
@@ -115,7 +106,7 @@ wrong_mark job before End h = absurd h
 -- the marks of good acts name their steps
 marks_name : (job : Job) (acts front back : List Act) (n : ℕ) → marks acts ≡ map (λ step. step.ws) job.steps → acts ≡ front ++ Mark n ∷ back → NamesNext job front n
 marks_name job acts front back n marked is =
-    let there : marks front ++ n ∷ marks back ≡ map (λ (step : StepJob). step.ws) job.steps = sym (marks_joined front (Mark n ∷ back)) ∙ sym (ap marks is) ∙ marked in
+    let there : marks front ++ n ∷ marks back ≡ map (λ (step : StepJob). step.ws) job.steps = sym (marks_append front (Mark n ∷ back)) ∙ sym (ap marks is) ∙ marked in
     names_next job front n (subst (λ (l : List ℕ). slice_get l (length (marks front)) ≡ Some n) there (stands_here (marks front) (marks back) n))
 
 pub good_acts_have_no_cause : GoodActsHaveNoCause

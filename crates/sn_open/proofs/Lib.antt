@@ -1,3 +1,4 @@
+mod BlockLemmas
 mod CauseLemmas
 mod CellLemmas
 mod GoodActLemmas

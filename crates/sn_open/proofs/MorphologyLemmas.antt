@@ -6,12 +6,11 @@ use Rattle.std.proofs.lemmas.Nat.{mul-le}
 use Rattle.sn_geom.proofs.Ring.{sums, expand}
 use Rattle.sn_raster.specs.Grid.{Grid, Node, Nodes, place, places, InDisc, IsInWindow}
 use Rattle.sn_raster.specs.Plane.{Plane, Has, mark_of}
-use Rattle.sn_open.specs.Region.{InBlock}
 use Rattle.sn_open.specs.Window.{rows, IsMarked}
 use Rattle.sn_open.specs.Spread.{IsCovered}
 use Rattle.sn_open.proofs.WindowLemmas.{in_own_window}
 use Rattle.sn_open.proofs.WidthLemmas.{square_le}
-use Rattle.sn_open.specs.Morphology.{IsWithin, AreDiscWidths, AreBlockWidths, IsClear, IsNearOne, HasBlock}
+use Rattle.sn_open.specs.Morphology.{IsWithin, AreDiscWidths, IsClear, IsNearOne}
 
 -- Distances of nodes.
 
@@ -54,22 +53,6 @@ covered_disc plane on d widths n are window =
           (q, covers.marked, (in_disc g.pitch d q n).1 ((are.each (unsigned_abs (n.j -ℤ q.j)) (few_rows g n q window covers.marked.window) (unsigned_abs (n.i -ℤ q.i))).0 covers.near)),
       λ (q, marked, near).
           (q, record { marked = marked; near = (are.each (unsigned_abs (n.j -ℤ q.j)) (few_rows g n q window marked.window) (unsigned_abs (n.i -ℤ q.i))).1 ((in_disc g.pitch d q n).0 near) }),
-    )
-
-pub covered_block : (plane : Plane) (on : Bool) (widths : List ℕ) (n : Node) → AreBlockWidths (rows plane.grid) widths → IsInWindow plane.grid n
-    → IsCovered plane on widths n ↔ ((q : Node) × IsMarked plane on q × InBlock n q)
-covered_block plane on widths n are window =
-    let g = plane.grid in (
-      λ (q, covers).
-          let both = (are.each (unsigned_abs (n.j -ℤ q.j)) (few_rows g n q window covers.marked.window) (unsigned_abs (n.i -ℤ q.i))).0 covers.near in
-          (q, covers.marked, record { columns = rw (swap q.i n.i) both.0; rows = rw (swap q.j n.j) both.1 }),
-      λ (q, marked, near). (
-        q,
-        record {
-          marked = marked;
-          near = (are.each (unsigned_abs (n.j -ℤ q.j)) (few_rows g n q window marked.window) (unsigned_abs (n.i -ℤ q.i))).1 (rw (swap n.i q.i) near.columns, rw (swap n.j q.j) near.rows);
-        },
-      ),
     )
 
 -- A node of the window is in a plane or not.
@@ -132,21 +115,6 @@ dilated from to d widths are spread n = (
       let (window, covered) = (spread n).0 has in
       let (q, marked, near) = (covered_disc from true d widths n are window).0 covered in (window, (q, marked.value.1 refl, near)),
   λ (window, (q, has, near)). (spread n).1 (window, (covered_disc from true d widths n are window).1 (q, had from q has, near)),
-)
-
-pub kept_blocks : (from mid to : Plane) (widths : List ℕ) → AreBlockWidths (rows from.grid) widths → mid.grid ≡ from.grid
-    → IsSpread from false widths mid → IsInverse mid to → (n : Node) → Has to n ↔ (IsInWindow from.grid n × HasBlock from n)
-kept_blocks from mid to widths are same spread inverse n = (
-  λ has.
-      let (window', none) = (inverse n).0 has in
-      let window = in_own_window from.grid mid.grid n (sym same) window' in
-      (window, (all_or_one from (λ q. InBlock n q)).0 (λ some. none ((spread n).1 (window, (covered_block from false widths n are window).1 some)))),
-  λ (window, block).
-      (inverse n).1 (
-        in_own_window mid.grid from.grid n same window,
-        λ covered.
-            (all_or_one from (λ q. InBlock n q)).1 block ((covered_block from false widths n are window).0 ((spread n).0 covered).1),
-      ),
 )
 
 -- Discs of one node.

@@ -4,7 +4,6 @@ use Rattle.sn_geom.specs.declared.units.Pt.{Pt}
 use Rattle.sn_geom.specs.Sweep.{Near}
 use Rattle.sn_geom.specs.SweepLaws.{NearOnePlace}
 use Rattle.sn_outline.specs.OutlineLaws.{TrailIsItsSegments}
-use Rattle.sn_open.specs.Update.{IsNearNode}
 use Rattle.sn_outline.specs.declared.job.StepJob.{StepJob}
 use Rattle.sn_outline.specs.declared.job.Way.{Way}
 use Rattle.sn_outline.specs.declared.job.Way.TheVariants as way
@@ -208,14 +207,14 @@ required_nodes g job step near lacking bad good kept nodes making is_near near_g
 -- The disc about a point, where a plane has all of it.
 
 pub disc_is : NearOnePlace → (d : ℕ) (centre : Pt) (allowed old near : Plane) → old.grid ≡ allowed.grid → IsEmpty old
-    → ((n : Node) → Has near n ↔ (Has old n ⊎ (IsInWindow old.grid n × IsNearNode old.grid d (record { a = centre; b = centre }) n)))
+    → ((n : Node) → Has near n ↔ (Has old n ⊎ (IsInWindow old.grid n × Near d centre centre (place old.grid.pitch n))))
     → (n : Node) → Has near n ↔ (IsInWindow old.grid n × InDisc allowed.grid.pitch d centre n)
 disc_is law d centre allowed old near same empty is n =
     let at = law d centre (place old.grid.pitch n) in
     let pitch = ap (λ (g : Grid). g.pitch) same in (
       λ has.
           ⊎_elim (λ (was : Has old n). absurd (empty n was))
-          (λ (here : IsInWindow old.grid n × IsNearNode old.grid d (record { a = centre; b = centre }) n). (here.0, subst (λ p. InDisc p d centre n) pitch (at.0 here.1))) ((is n).0 has),
+          (λ (here : IsInWindow old.grid n × Near d centre centre (place old.grid.pitch n)). (here.0, subst (λ p. InDisc p d centre n) pitch (at.0 here.1))) ((is n).0 has),
       λ (window, disc). (is n).1 (inr (window, at.1 (subst (λ p. InDisc p d centre n) (sym pitch) disc))),
     )
 
@@ -243,17 +242,17 @@ HasOrNear plane g points d n = Has plane n ⊎ (IsInWindow g n × NearTrail poin
 
 pub next_segment : TrailIsItsSegments → (g : Grid) (d : ℕ) (from to : Pt) (more points : List Pt) (start old new : Plane) → old.grid ≡ g
     → ((n : Node) → HasOrNear old g (from ∷ to ∷ more) d n ↔ HasOrNear start g points d n)
-    → ((n : Node) → Has new n ↔ (Has old n ⊎ (IsInWindow old.grid n × IsNearNode old.grid d (record { a = from; b = to }) n)))
+    → ((n : Node) → Has new n ↔ (Has old n ⊎ (IsInWindow old.grid n × Near d from to (place old.grid.pitch n))))
     → (n : Node) → HasOrNear new g (to ∷ more) d n ↔ HasOrNear start g points d n
 next_segment law g d from to more points start old new same before is n =
     let split = (law d from to (place g.pitch n) more).0 in
-    let added : Has new n ↔ (Has old n ⊎ (IsInWindow g n × IsNearNode g d (record { a = from; b = to }) n)) =
-    subst (λ (h : Grid). Has new n ↔ (Has old n ⊎ (IsInWindow h n × IsNearNode h d (record { a = from; b = to }) n))) same (is n) in (
+    let added : Has new n ↔ (Has old n ⊎ (IsInWindow g n × Near d from to (place g.pitch n))) =
+    subst (λ (h : Grid). Has new n ↔ (Has old n ⊎ (IsInWindow h n × Near d from to (place h.pitch n)))) same (is n) in (
       λ either.
           (before n).0
           (⊎_elim
           (λ (has : Has new n).
-          ⊎_elim (λ (was : Has old n). inl was) (λ (here : IsInWindow g n × IsNearNode g d (record { a = from; b = to }) n). inr (here.0, split.1 (inl here.1))) (added.0 has))
+          ⊎_elim (λ (was : Has old n). inl was) (λ (here : IsInWindow g n × Near d from to (place g.pitch n)). inr (here.0, split.1 (inl here.1))) (added.0 has))
           (λ (rest : IsInWindow g n × NearTrail (to ∷ more) d (place g.pitch n)). inr (rest.0, split.1 (inr rest.1))) either),
       λ whole.
           ⊎_elim (λ (was : Has old n). inl (added.1 (inl was)))

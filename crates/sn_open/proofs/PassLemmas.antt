@@ -12,7 +12,7 @@ use Rattle.sn_outline.specs.declared.job.StepJob.{StepJob}
 use Rattle.sn_raster.specs.Heights.{low_end, Pass}
 use Rattle.sn_geom.specs.Acts.{Act}
 use Rattle.sn_geom.specs.Acts.Act.{Mark, PutTool, Enter, Locate, Rapid, Feed, End}
-use Rattle.sn_open.specs.Good.{body_of, pass_of, passes}
+use Rattle.sn_open.specs.Good.{body_of, marks, pass_of, passes}
 use Rattle.sn_open.specs.GoodLaws.{FeedCutsAboveItsPoint, OnlyFeedsCut, CutStaysCut, CutsInAnyOrder}
 
 -- The body of a tool.
@@ -52,6 +52,30 @@ one_body steps step one inside =
     let (body, is) = body_there steps step inside in
     let (t, there_t, same, its) = body_first steps step.tool body is in
     is ∙ ap Some (sym its ∙ one t step there_t inside same)
+
+-- Acts in a row.
+
+pub marks_append : (some others : List Act) → marks (some ++ others) ≡ marks some ++ marks others
+marks_append [] others = refl
+marks_append (Mark n ∷ acts) others = ap (λ (ms : List ℕ). n ∷ ms) (marks_append acts others)
+marks_append (PutTool k ∷ acts) others = marks_append acts others
+marks_append (Enter z ∷ acts) others = marks_append acts others
+marks_append (Locate p ∷ acts) others = marks_append acts others
+marks_append (Rapid from to tool ∷ acts) others = marks_append acts others
+marks_append (Feed from to feed speed tool ∷ acts) others = marks_append acts others
+marks_append (End ∷ acts) others = marks_append acts others
+
+pub passes_append : (steps : List StepJob) (some others : List Act) → passes steps (some ++ others) ≡ passes steps some ++ passes steps others
+passes_append steps [] others = refl
+passes_append steps (Mark n ∷ acts) others = passes_append steps acts others
+passes_append steps (PutTool k ∷ acts) others = passes_append steps acts others
+passes_append steps (Enter z ∷ acts) others = passes_append steps acts others
+passes_append steps (Locate p ∷ acts) others = passes_append steps acts others
+passes_append steps (Rapid from to tool ∷ acts) others = passes_append steps acts others
+passes_append steps (Feed from to feed speed tool ∷ acts) others =
+    ap (λ (ps : List Pass). pass_of (body_of steps tool) from to ++ ps) (passes_append steps acts others)
+    ∙ sym (append_assoc (pass_of (body_of steps tool) from to) (passes steps acts) (passes steps others))
+passes_append steps (End ∷ acts) others = passes_append steps acts others
 
 -- The passes of acts.
 
@@ -171,26 +195,14 @@ cut_stays_cut job before after c left = record {
   uncut = λ pass inside. left.uncut pass (earlier_pass job.steps before after pass inside);
 }
 
-both_passes : (steps : List StepJob) (some others : List Act) → passes steps (some ++ others) ≡ passes steps some ++ passes steps others
-both_passes steps [] others = refl
-both_passes steps (Mark n ∷ acts) others = both_passes steps acts others
-both_passes steps (PutTool k ∷ acts) others = both_passes steps acts others
-both_passes steps (Enter z ∷ acts) others = both_passes steps acts others
-both_passes steps (Locate p ∷ acts) others = both_passes steps acts others
-both_passes steps (Rapid from to tool ∷ acts) others = both_passes steps acts others
-both_passes steps (Feed from to feed speed tool ∷ acts) others =
-    ap (λ (ps : List Pass). pass_of (body_of steps tool) from to ++ ps) (both_passes steps acts others)
-    ∙ sym (append_assoc (pass_of (body_of steps tool) from to) (passes steps acts) (passes steps others))
-both_passes steps (End ∷ acts) others = both_passes steps acts others
-
 exchanged : (steps : List StepJob) (some others : List Act) (pass : Pass)
     → Contains (passes steps (some ++ others)) pass → Contains (passes steps (others ++ some)) pass
 exchanged steps some others pass inside =
-    subst (λ (ps : List Pass). Contains ps pass) (sym (both_passes steps others some))
+    subst (λ (ps : List Pass). Contains ps pass) (sym (passes_append steps others some))
     (⊎_elim (λ first. Contains-append_right (passes steps others) (passes steps some) pass first)
     (λ later. Contains-append_left (passes steps others) (passes steps some) pass later)
     (Contains-append_cases (passes steps some) (passes steps others) pass
-    (subst (λ (ps : List Pass). Contains ps pass) (both_passes steps some others) inside)))
+    (subst (λ (ps : List Pass). Contains ps pass) (passes_append steps some others) inside)))
 
 pub cuts_in_any_order : CutsInAnyOrder
 cuts_in_any_order job some others c = (

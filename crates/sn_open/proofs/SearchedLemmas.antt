@@ -16,7 +16,8 @@ use Rattle.sn_open.specs.VerdictLaws.{IsSearched, GoodIsWithoutCause}
 use Rattle.sn_open.specs.declared.verdict.Cause.{Cause}
 use Rattle.sn_open.specs.declared.verdict.Cause.TheVariants.{WrongMark, LowEntry, Early, OtherTool, OtherFeed, OtherSpeed, Gouge, Deep, Crash}
 use Rattle.sn_open.proofs.ProgramLineLemmas.{cause_in_all}
-use Rattle.sn_open.proofs.GoodActLemmas.{marks_joined, own_mark, stands_here, same_number, is_next, good_acts_have_no_cause}
+use Rattle.sn_open.proofs.GoodActLemmas.{own_mark, stands_here, same_number, is_next, good_acts_have_no_cause}
+use Rattle.sn_open.proofs.PassLemmas.{marks_append}
 
 not_other : (m n : ℕ) → ¬ (m ≢ n) → m ≡ n
 not_other m n same =
@@ -55,8 +56,8 @@ one_more job pre (Mark n) none (tail, is) =
     let next = surely_next job pre n (λ other. none WrongMark (refl, other)) in
     let at = subst (λ (l : List ℕ). slice_get l (length (marks pre)) ≡ Some n) is (is_next job pre n next) in
     let (behind, tail_is) = begins_with (marks pre) tail n at in
-    (behind, is ∙ ap (λ l. marks pre ++ l) tail_is ∙ sym (append_assoc (marks pre) (n ∷ []) behind) ∙ ap (λ l. l ++ behind) (sym (marks_joined pre (Mark n ∷ []))))
-one_more job pre act none (tail, is) = (tail, is ∙ ap (λ l. l ++ tail) (sym (append-nil (marks pre)) ∙ sym (marks_joined pre (act ∷ []))))
+    (behind, is ∙ ap (λ l. marks pre ++ l) tail_is ∙ sym (append_assoc (marks pre) (n ∷ []) behind) ∙ ap (λ l. l ++ behind) (sym (marks_append pre (Mark n ∷ []))))
+one_more job pre act none (tail, is) = (tail, is ∙ ap (λ l. l ++ tail) (sym (append-nil (marks pre)) ∙ sym (marks_append pre (act ∷ []))))
 
 from_later : (job : Job) (pre rest : List Act) (act : Act) (cause : Cause) → IsCauseAmong job (pre ++ act ∷ []) rest cause → IsCauseAmong job pre (act ∷ rest) cause
 from_later job pre rest act cause h = record {

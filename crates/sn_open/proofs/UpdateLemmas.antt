@@ -1,5 +1,5 @@
 -- Planes that are put row by row.
-use Rattle.std.proofs.Common.{ℕ, ◌≡◌, ◌+◌, ◌<◌, ◌≤◌, ◌≤ℤ◌, ◌↔◌, ◌⊎◌, inl, inr, Bool, IsTrue, ℤ, pos, ◌+ℤ◌, sym, ap, ◌∙◌, subst, ⊎_elim, arith}
+use Rattle.std.proofs.Common.{ℕ, ◌≡◌, ◌+◌, ◌<◌, ◌≤◌, ◌↔◌, Bool, IsTrue, ℤ, pos, ◌+ℤ◌, sym, ap, subst, ⊎_elim, arith}
 use Rattle.std.proofs.lemmas.Bool.{cases_lt}
 use Rattle.std.proofs.lemmas.Int.{ints}
 use Rattle.sn_raster.specs.Grid.{Grid, Node, Nodes, IsInWindow}
@@ -7,7 +7,7 @@ use Rattle.sn_raster.specs.Plane.{Plane, Has}
 use Rattle.sn_open.specs.Window.{columns, rows, node_at}
 use Rattle.sn_open.specs.Update.{IsRowPut, AreRowsPut, IsAlone}
 use Rattle.sn_open.proofs.MorphologyLemmas.{has_or_lacks}
-use Rattle.sn_open.proofs.WindowLemmas.{column_of, row_of, at_window, in_own_window, in_window_at, same_number_or_other}
+use Rattle.sn_open.proofs.WindowLemmas.{column_of, row_of, at_window, in_own_window}
 
 -- nodes in other columns or rows are others
 same_offset : (first : ℤ) (k m : ℕ) → first +ℤ pos k ≡ first +ℤ pos m → k ≡ m
@@ -93,46 +93,6 @@ whole_row P g row column end old new e below above put = let same : column ≡ c
 -- in the window of an equal grid
 pub of_grid : (P : Nodes) (new : Plane) (g h : Grid) → g ≡ h → ((n : Node) → Has new n ↔ (IsInWindow g n × P n)) → (n : Node) → Has new n ↔ (IsInWindow h n × P n)
 of_grid P new g h same nodes = subst (λ k. (n : Node) → Has new n ↔ (IsInWindow k n × P n)) same nodes
-
--- a row that was filled by its places
-pub filled_row : (P : Nodes) (g : Grid) (row : ℕ) (j : ℤ) (old new : Plane) → row < rows g → j ≡ g.j0 +ℤ pos row → old.grid ≡ g → new.grid ≡ g
-    → ((i : ℤ) → g.i0 ≤ℤ i → i ≤ℤ g.i1 → Has new (record { i = i; j = j }) ↔ P (record { i = i; j = j }))
-    → ((n : Node) → ¬ (n.j ≡ j) → Has new n ↔ Has old n) → IsRowPut P g row old new (columns g)
-filled_row P g row j old new row_in is was now filled others = record {
-  grid = now;
-  done = λ k inside.
-      let window = in_window_at g k row inside row_in in
-      subst (λ y. let n : Node = record { i = g.i0 +ℤ pos k; j = y } in Has new n ↔ P n) is (filled (g.i0 +ℤ pos k) window.left window.right);
-  rest = λ n off.
-      ⊎_elim
-      (λ (here : n.j ≡ j).
-      let none : ¬ IsInWindow g n = (λ window.
-      let at = at_window g n window in
-      off (column_of g n) at.column_in (at.is ∙ ap (λ r. node_at g (column_of g n) r) (same_offset g.j0 (row_of g n) row (sym (ap (λ m. m.j) at.is) ∙ here ∙ is)))) in
-      ((λ has. absurd (none (in_own_window g new.grid n (sym now) has.in_window))), (λ has. absurd (none (in_own_window g old.grid n (sym was) has.in_window)))))
-      (λ (other : ¬ (n.j ≡ j)). others n other) (same_number_or_other n.j j);
-}
-
-pub either_test : (b : Bool) (A B C : Type 0) → (IsTrue b ↔ (A ⊎ C)) → (A ↔ B) → IsTrue b ↔ (B ⊎ C)
-either_test b A B C test same = (
-  λ t. ⊎_elim (λ (a : A). inl (same.0 a)) (λ (c : C). inr c) (test.0 t),
-  λ e. test.1 (⊎_elim (λ (x : B). inl (same.1 x)) (λ (c : C). inr c) e),
-)
-
-pub or_alike : (A B C : Type 0) → (A ↔ B) → (A ⊎ C) ↔ (B ⊎ C)
-or_alike A B C same = (
-  (λ e. ⊎_elim (λ (a : A). inl (same.0 a)) (λ (c : C). inr c) e),
-  (λ e. ⊎_elim (λ (x : B). inl (same.1 x)) (λ (c : C). inr c) e),
-)
-
--- a plane that gained the nodes of its window that N holds of
-pub added : (old new : Plane) (N : Grid → Nodes) (g : Grid) → g ≡ old.grid → ((n : Node) → Has new n ↔ (IsInWindow g n × (Has old n ⊎ N g n)))
-    → (n : Node) → Has new n ↔ (Has old n ⊎ (IsInWindow old.grid n × N old.grid n))
-added old new N g same all n =
-    subst (λ h. Has new n ↔ (Has old n ⊎ (IsInWindow h n × N h n))) same (
-      (λ has. let (window, e) = (all n).0 has in ⊎_elim (λ (was : Has old n). inl was) (λ (here : N g n). inr (window, here)) e),
-      (λ e. ⊎_elim (λ (was : Has old n). (all n).1 (in_own_window g old.grid n same was.in_window, inl was)) (λ (here : IsInWindow g n × N g n). (all n).1 (here.0, inr here.1)) e),
-    )
 
 -- where no node of a row before the end is alone, none is
 pub none_alone : (plane other : Plane) (g : Grid) (end row : ℕ) → g ≡ plane.grid → other.grid ≡ plane.grid → end ≡ rows g → end ≤ row

@@ -4,7 +4,7 @@ use Rattle.std.proofs.lemmas.List.{length-set}
 use Rattle.std.proofs.lemmas.Bool.{cases_lt}
 use Rattle.std.proofs.lemmas.Nat.{mul-le}
 use Rattle.sn_geom.specs.Sweep.{IsHalfWidth}
-use Rattle.sn_open.specs.Morphology.{IsWithin, AreDiscWidths, AreBlockWidths}
+use Rattle.sn_open.specs.Morphology.{IsWithin, AreDiscWidths}
 use Rattle.sn_open.specs.Spread.{AreHalfWidths}
 
 pub square_le : (a b : ℕ) → a ≤ b → a * a ≤ b * b
@@ -59,21 +59,6 @@ disc_half_widths d pitch rows widths are = record {
       (λ (less : get_or widths k 0 < get_or widths k' 0).
       let there = (are.each k' inside (get_or widths k 0)).0 less in
       let here = (are.each k (omega arith) (get_or widths k 0)).1 (closer d pitch (get_or widths k 0) k k' before there) in absurd (omega arith))
-      (λ (falls : get_or widths k' 0 ≤ get_or widths k 0). falls) (cases_lt (get_or widths k 0) (get_or widths k' 0)))
-      (λ (end : rows ≤ k'). let same : k' ≡ rows = omega arith in let none = ap (λ r. get_or widths r 0) same ∙ are.last in omega arith) (cases_lt k' rows);
-}
-
-pub block_half_widths : (rows : ℕ) (widths : List ℕ) → AreBlockWidths rows widths → AreHalfWidths rows widths
-block_half_widths rows widths are = record {
-  full = are.full;
-  last = are.last;
-  fall = λ k k' before within.
-      ⊎_elim
-      (λ (inside : k' < rows).
-      ⊎_elim
-      (λ (less : get_or widths k 0 < get_or widths k' 0).
-      let there = (are.each k' inside (get_or widths k 0)).0 less in
-      let here = (are.each k (omega arith) (get_or widths k 0)).1 (there.0, omega (arith, there.1)) in absurd (omega arith))
       (λ (falls : get_or widths k' 0 ≤ get_or widths k 0). falls) (cases_lt (get_or widths k 0) (get_or widths k' 0)))
       (λ (end : rows ≤ k'). let same : k' ≡ rows = omega arith in let none = ap (λ r. get_or widths r 0) same ∙ are.last in omega arith) (cases_lt k' rows);
 }

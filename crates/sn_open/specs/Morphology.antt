@@ -1,5 +1,5 @@
 -- MEANING: erosion and dilation of planes over their window, by discs and by the five by five block of nodes; and the code's
--- own words of their half widths (this project's own).
+-- own words of the half widths of discs (this project's own).
 use Rattle.std.specs.Prelude.{◌≡◌, ◌↔◌, ℕ, ◌+◌, ◌*◌, ◌≤◌, ◌<◌, List, length, slice_index}
 use Rattle.sn_raster.specs.Grid.{Node, Nodes, place, InDisc, IsInWindow}
 use Rattle.sn_raster.specs.Plane.{Plane, Has}
@@ -13,12 +13,6 @@ IsWithin d pitch m k = 4 * (m * pitch * (m * pitch) + k * pitch * (k * pitch)) �
 pub record AreDiscWidths (d pitch rows : ℕ) (widths : List ℕ) : Type 0 where
   pub full : length widths ≡ rows + 1
   pub each : (k : ℕ) → k < rows → (m : ℕ) → m < slice_index widths k ↔ IsWithin d pitch m k
-  pub last : slice_index widths rows ≡ 0
-
--- those of the block
-pub record AreBlockWidths (rows : ℕ) (widths : List ℕ) : Type 0 where
-  pub full : length widths ≡ rows + 1
-  pub each : (k : ℕ) → k < rows → (m : ℕ) → m < slice_index widths k ↔ ((m ≤ 2) × (k ≤ 2))
   pub last : slice_index widths rows ≡ 0
 
 -- all nodes of the window in the disc of diameter d about n are in the plane

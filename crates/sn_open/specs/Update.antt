@@ -1,8 +1,6 @@
 -- PRIVATE: planes whose nodes are put in or taken out one after the other, by a set that says which are in.
 use Rattle.std.specs.Prelude.{◌≡◌, ◌↔◌, ℕ, ◌≤◌, ◌<◌}
-use Rattle.sn_geom.specs.declared.units.Seg.{Seg}
-use Rattle.sn_geom.specs.Sweep.{Near}
-use Rattle.sn_raster.specs.Grid.{Grid, Node, Nodes, place}
+use Rattle.sn_raster.specs.Grid.{Grid, Node, Nodes}
 use Rattle.sn_raster.specs.Plane.{Plane, Has}
 use Rattle.sn_open.specs.Window.{columns, rows, node_at}
 
@@ -17,10 +15,6 @@ pub record AreRowsPut (P : Nodes) (g : Grid) (old new : Plane) (row : ℕ) : Typ
   pub grid : new.grid ≡ g
   pub done : (k r : ℕ) → k < columns g → r < row → Has new (node_at g k r) ↔ P (node_at g k r)
   pub rest : (k r : ℕ) → k < columns g → row ≤ r → r < rows g → Has new (node_at g k r) ↔ Has old (node_at g k r)
-
--- the node is within half of d of the segment
-abbrev pub IsNearNode : Grid → ℕ → Seg → Nodes
-IsNearNode g d segment n = Near d segment.a segment.b (place g.pitch n)
 
 -- the plane has the node, and the other lacks it
 abbrev pub IsAlone : Plane → Plane → Nodes

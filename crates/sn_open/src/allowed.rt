@@ -11,11 +11,10 @@ ghost use Rattle.sn_open.specs.OnGrid.{KeepsSideOn};
 ghost use Rattle.sn_open.specs.Morphology.{IsClear, IsNearOne, HasBlock};
 
 use crate::morphology::Room;
-use crate::planes::fill;
 use sn_geom::{Memory, REACH};
 use sn_outline::{Bottom, Outline, StepJob, tip_floor};
 use sn_raster::laws::grids;
-use sn_raster::{Bits, Grid};
+use sn_raster::{Bits, Grid, fill};
 use std::alloc::Global;
 use std::marker::Model;
 

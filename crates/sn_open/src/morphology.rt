@@ -7,17 +7,18 @@ ghost use Rattle.sn_open.specs.Morphology.{IsClear, IsNearOne, HasBlock};
 
 use crate::planes::fill_raw;
 use crate::spread::spread;
-use crate::widths::{set_block_widths, set_disc_widths};
+use crate::widths::set_disc_widths;
 use crate::window::{columns_of, rows_of};
 use sn_geom::{Memory, REACH};
 use sn_raster::{Bits, Grid};
 use std::alloc::Global;
 use std::marker::Model;
 
-/// What erosions and dilations over a grid need: its raw nodes, and room for a number a column and a number a row.
+/// What erosions and dilations over a grid need: its raw nodes, and room for a plane, a number a column and a number a row.
 #[derive(Drop)]
 pub struct Room {
     raw: Bits,
+    spare: Bits,
     gaps: Vec<u32>,
     widths: Vec<u32>,
 }
@@ -32,7 +33,8 @@ impl Model for Room {
 
     ghost view = { λ room. room.raw.grid };
 
-    ghost invariant = { λ room. (length room.gaps.items ≡ columns room.raw.grid)
+    ghost invariant = { λ room. (room.spare.grid ≡ room.raw.grid)
+        × (length room.gaps.items ≡ columns room.raw.grid)
         × (length room.widths.items ≡ rows room.raw.grid + 1)
         × ((n : Node) → Has room.raw n ↔ IsInRaw room.raw.grid n) };
 }
@@ -44,9 +46,15 @@ impl Room {
     {
         let mut raw = Bits::new(alloc, g)?;
         fill_raw(&mut raw);
+        let spare = Bits::new(alloc, g)?;
         let gaps = vec![in alloc; 0; columns_of(g) as usize]?;
         let widths = vec![in alloc; 0; rows_of(g) as usize + 1]?;
-        Ok(Room { raw, gaps, widths })
+        Ok(Room {
+            raw,
+            spare,
+            gaps,
+            widths,
+        })
     }
 
     /// Makes it the plane of the nodes whose disc of diameter `d` is all in the other plane, as far as the window goes.
@@ -82,7 +90,7 @@ impl Room {
         ensures grid { to.new.grid ≡ self.old }
         ensures nodes { (n : Node) → Has to.new n ↔ (IsInWindow self.old n × HasBlock from.now n) }
     {
-        keep_blocks_in(&mut self.widths, &mut self.gaps, from, to);
+        keep_blocks_in(&mut self.spare, from, to);
     }
 
     /// Makes it the plane of the raw nodes that the other plane has.
@@ -141,15 +149,15 @@ fn has_no_other(d: u32, g: &Grid) -> bool
     d < 2 * g.pitch
 }
 
-fn keep_blocks_in(widths: &mut [u32], gaps: &mut [u32], from: &Bits, to: &mut Bits)
+fn keep_blocks_in(spare: &mut Bits, from: &Bits, to: &mut Bits)
+    requires spare { spare.old.grid ≡ from.now.grid }
     requires grid { to.old.grid ≡ from.now.grid }
-    requires widths { length widths.old ≡ rows_in from.now.grid + 1 }
-    requires gaps { length gaps.old ≡ columns from.now.grid }
+    ensures spare { spare.new.grid ≡ from.now.grid }
     ensures grid { to.new.grid ≡ from.now.grid }
     ensures nodes { (n : Node) → Has to.new n ↔ (IsInWindow from.now.grid n × HasBlock from.now n) }
 {
-    let g = from.grid();
-    set_block_widths(widths, rows_of(&g));
-    spread(from, false, widths, gaps, to);
-    to.invert();
+    spare.keep_beside_in_rows(from);
+    to.keep_beside_in_rows(spare);
+    spare.keep_beside_in_columns(to);
+    to.keep_beside_in_columns(spare);
 }

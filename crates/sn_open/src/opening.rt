@@ -11,13 +11,12 @@ ghost use Rattle.sn_open.specs.Region.{IsFollowed, IsDrilledAtCentre};
 
 use crate::allowed::Allowed;
 use crate::laws::outside;
-use crate::planes::{add_near, has_all};
 use sn_geom::laws::nearness;
 use sn_geom::{Memory, Pt, REACH, Seg};
 use sn_outline::laws::shapes;
 use sn_outline::{Shape, StepJob, Way};
 use sn_raster::laws::grids;
-use sn_raster::{Bits, Grid};
+use sn_raster::{Bits, Grid, add_near};
 use std::alloc::Global;
 use std::marker::Model;
 
@@ -192,7 +191,7 @@ fn add_trail(plane: &mut Bits, d: u32, points: &[Pt])
     };
     let mut from = *first;
     for to in rest {
-        add_near(plane, d, &Seg { a: from, b: *to });
+        add_near(d, &Seg { a: from, b: *to }, plane);
         from = *to;
     }
 }
@@ -208,15 +207,12 @@ fn add_disc_with_room(allowed: &Allowed, d: u32, centre: &Pt, plane: &mut Bits)
 {
     nearness();
     let g = plane.grid();
-    add_near(
-        plane,
-        d,
-        &Seg {
-            a: *centre,
-            b: *centre,
-        },
-    );
-    if !has_all(allowed.nodes(), plane) {
+    let spot = Seg {
+        a: *centre,
+        b: *centre,
+    };
+    add_near(d, &spot, plane);
+    if !plane.is_within(allowed.nodes()) {
         plane.clear();
     }
 }

@@ -1,16 +1,13 @@
-//! Planes whose nodes are put in or taken out all over the window.
-ghost use Rattle.std.specs.Prelude.{◌≡◌, ◌↔◌, ◌⊎◌, ◌≤◌, ◌<◌, ℕ, IsTrue, IsNone, IfSome};
-ghost use Rattle.sn_outline.specs.Outline.{HasNearWidth, InOutline};
-ghost use Rattle.sn_raster.specs.Grid.{Node, IsInWindow, IsInRaw, place};
+//! The plane of the raw nodes, and the first node that one plane has and another lacks.
+ghost use Rattle.std.specs.Prelude.{◌≡◌, ◌↔◌, ◌<◌, ℕ, IsTrue, IsNone, IfSome};
+ghost use Rattle.sn_raster.specs.Grid.{Node, IsInRaw};
 ghost use Rattle.sn_raster.specs.Plane.{Has};
 ghost use Rattle.sn_open.specs.Window.{columns, rows, node_at};
-ghost use Rattle.sn_open.specs.Update.{IsRowPut, IsNearNode, IsAlone, IsFirstAlone, IsFirstAloneIn};
+ghost use Rattle.sn_open.specs.Update.{IsRowPut, IsAlone, IsFirstAlone, IsFirstAloneIn};
 
 use crate::spot::Spot;
-use crate::window::{columns_of, has_at, is_raw_at, place_after, point_at, put_at, rows_of};
-use sn_geom::{REACH, Seg, near};
-use sn_outline::Outline;
-use sn_raster::{Bits, Grid, fill_row};
+use crate::window::{columns_of, has_at, is_raw_at, put_at, rows_of};
+use sn_raster::{Bits, Grid};
 
 /// Makes it the plane of the raw nodes.
 pub(crate) fn fill_raw(plane: &mut Bits)
@@ -44,74 +41,6 @@ fn has_alone_at(plane: &Bits, other: &Bits, g: &Grid, column: u32, row: u32) -> 
     ensures { IsTrue result ↔ (Has plane.now (node_at g.now column row) × ¬ Has other.now (node_at g.now column row)) }
 {
     has_at(plane, g, column, row) && !has_at(other, g, column, row)
-}
-
-/// Makes it the plane of the nodes of the window that are in the outline.
-pub(crate) fn fill(o: &Outline, plane: &mut Bits)
-    requires { HasNearWidth o.now.shape }
-    ensures grid { plane.new.grid ≡ plane.old.grid }
-    ensures nodes { (n : Node) → Has plane.new n ↔ (IsInWindow plane.old.grid n × InOutline o.now (place plane.old.grid.pitch n)) }
-{
-    let g = plane.grid();
-    for row in 0..rows_of(&g) {
-        fill_at(o, plane, &g, row);
-    }
-}
-
-fn fill_at(o: &Outline, plane: &mut Bits, g: &Grid, row: u32)
-    requires width { HasNearWidth o.now.shape }
-    requires grid { plane.old.grid ≡ g.now }
-    requires row { row < rows g.now }
-    ensures { IsRowPut (λ n. InOutline o.now (place g.now.pitch n)) g.now row plane.old plane.new (columns g.now) }
-{
-    g.rule();
-    fill_row(o, g, place_after(g.j0, row), plane);
-}
-
-/// Puts in the nodes of the window within half of `d` of the segment.
-pub(crate) fn add_near(plane: &mut Bits, d: u32, segment: &Seg)
-    requires { d ≤ REACH }
-    ensures grid { plane.new.grid ≡ plane.old.grid }
-    ensures nodes { (n : Node) → Has plane.new n
-        ↔ (Has plane.old n ⊎ (IsInWindow plane.old.grid n × IsNearNode plane.old.grid d segment.now n)) }
-{
-    let g = plane.grid();
-    for row in 0..rows_of(&g) {
-        add_near_row(plane, d, segment, &g, row);
-    }
-}
-
-fn add_near_row(plane: &mut Bits, d: u32, segment: &Seg, g: &Grid, row: u32)
-    requires diameter { d ≤ REACH }
-    requires grid { plane.old.grid ≡ g.now }
-    requires row { row < rows g.now }
-    ensures { IsRowPut (λ n. Has plane.old n ⊎ IsNearNode g.now d segment.now n) g.now row plane.old plane.new (columns g.now) }
-{
-    for column in 0..columns_of(g) {
-        let on = has_or_is_near_at(plane, d, segment, g, column, row);
-        put_at(plane, g, column, row, on);
-    }
-}
-
-/// Whether the plane has the node in this column and row, or it is within half of `d` of the segment.
-fn has_or_is_near_at(plane: &Bits, d: u32, segment: &Seg, g: &Grid, column: u32, row: u32) -> bool
-    requires diameter { d ≤ REACH }
-    requires grid { plane.now.grid ≡ g.now }
-    requires column { column < columns g.now }
-    requires row { row < rows g.now }
-    ensures { IsTrue result
-        ↔ (Has plane.now (node_at g.now column row) ⊎ IsNearNode g.now d segment.now (node_at g.now column row)) }
-{
-    has_at(plane, g, column, row) || near(d, segment, &point_at(g, column, row))
-}
-
-/// Whether the plane has all nodes of the other.
-pub(crate) fn has_all(plane: &Bits, other: &Bits) -> bool
-    requires { other.now.grid ≡ plane.now.grid }
-    ensures yes { IsTrue result → (n : Node) → Has other.now n → Has plane.now n }
-    ensures no { ¬ IsTrue result → (n : Node) × Has other.now n × ¬ Has plane.now n }
-{
-    first_alone(other, plane).is_none()
 }
 
 /// The first node of the plane that the other lacks: the first by rows, and in a row by columns.

@@ -10,7 +10,7 @@ ghost use Rattle.sn_open.specs.Search.{IsFullAt, OpensAt, IsOpenedAt, lowest_of_
 
 use crate::least::{Allowance, step_of_least};
 use crate::opening::Opening;
-use crate::planes::{first_alone, has_all};
+use crate::planes::first_alone;
 use crate::required::Required;
 use crate::window::place_after;
 use sn_geom::{Cell, Memory};
@@ -61,7 +61,7 @@ fn is_small(j: &Job, g: &Grid, required: &mut Required, none: &Bits, feature: u3
     ensures no { ¬ IsTrue result → HasRequired j.now feature }
 {
     required.refill(j, feature, g);
-    has_all(none, required.nodes())
+    required.nodes().is_within(none)
 }
 
 /// Whether one of the steps cuts the feature.

@@ -1,7 +1,7 @@
-//! Half widths of discs and blocks of nodes, in columns, for each count of rows from the middle.
+//! Half widths of discs of nodes, in columns, for each count of rows from the middle.
 ghost use Rattle.std.specs.Prelude.{◌≡◌, ◌↔◌, ◌+◌, ◌*◌, ◌≤◌, ◌<◌, ℕ, length};
 ghost use Rattle.sn_outline.specs.JobRule.{IsPitch};
-ghost use Rattle.sn_open.specs.Morphology.{IsWithin, AreDiscWidths, AreBlockWidths};
+ghost use Rattle.sn_open.specs.Morphology.{IsWithin, AreDiscWidths};
 
 use sn_geom::{REACH, half_width};
 
@@ -32,22 +32,4 @@ fn disc_width(d: u32, pitch: u32, k: u32) -> u32
         Some(w) => w / pitch + 1,
         None => 0,
     }
-}
-
-/// Makes them those of the five by five block.
-pub(crate) fn set_block_widths(widths: &mut [u32], rows: u32)
-    requires { length widths.old ≡ rows + 1 }
-    ensures { AreBlockWidths rows widths.new }
-{
-    for k in 0..rows {
-        widths[k as usize] = block_width(k);
-    }
-    widths[rows as usize] = 0;
-}
-
-/// How many columns from the middle on the block has, `k` rows from it.
-fn block_width(k: u32) -> u32
-    ensures { (m : ℕ) → m < result ↔ ((m ≤ 2) × (k ≤ 2)) }
-{
-    if k <= 2 { 3 } else { 0 }
 }

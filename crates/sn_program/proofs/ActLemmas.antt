@@ -4,7 +4,7 @@ use Rattle.std.specs.Prelude.{Contains, slice_get}
 use Rattle.std.proofs.lemmas.List.{length-append}
 use Rattle.sn_geom.proofs.Ring.{sums}
 use Rattle.sn_geom.specs.Acts.{Act}
-use Rattle.sn_geom.specs.Acts.Act.{Mark, PutTool, Enter, Locate, Rapid as AtRapid, Feed as AtFeed, End}
+use Rattle.sn_geom.specs.Acts.Act.{Mark, Locate, Rapid as AtRapid, Feed as AtFeed}
 use Rattle.sn_geom.specs.Sweep.{Touch}
 use Rattle.sn_geom.specs.Tip.{tip_after}
 use Rattle.sn_geom.specs.declared.tip.Tip.{Tip}
@@ -16,7 +16,7 @@ use Rattle.sn_outline.specs.JobRule.{IsJob}
 use Rattle.sn_outline.specs.declared.job.StepJob.{StepJob}
 use Rattle.sn_raster.specs.Heights.{low_end, Pass}
 use Rattle.sn_open.specs.Good.{marks, passes, pass_of, body_of, IsCurrent, IsJobTool, IsRightRapid, IsRightFeed, IsRight}
-use Rattle.sn_open.proofs.PassLemmas.{one_body}
+use Rattle.sn_open.proofs.PassLemmas.{one_body, marks_append, passes_append}
 use Rattle.sn_link.specs.declared.moves.Move.{Move}
 use Rattle.sn_link.specs.declared.moves.Move.TheVariants.{Rapid, Feed}
 use Rattle.sn_link.specs.Moves.{end_of, is_in_spindle, tip_for, tool_after, tip_after_step}
@@ -27,28 +27,6 @@ use Rattle.sn_program.specs.PlanActs.{move_acts, setting_acts, step_acts, steps_
 use Rattle.sn_program.proofs.PlannedLemmas.{steps_of}
 
 -- What acts mark and cut.
-
-pub marks_append : (some others : List Act) → marks (some ++ others) ≡ marks some ++ marks others
-marks_append [] others = refl
-marks_append (Mark n ∷ acts) others = ap (λ (ms : List ℕ). n ∷ ms) (marks_append acts others)
-marks_append (PutTool k ∷ acts) others = marks_append acts others
-marks_append (Enter z ∷ acts) others = marks_append acts others
-marks_append (Locate p ∷ acts) others = marks_append acts others
-marks_append (AtRapid from to tool ∷ acts) others = marks_append acts others
-marks_append (AtFeed from to feed speed tool ∷ acts) others = marks_append acts others
-marks_append (End ∷ acts) others = marks_append acts others
-
-pub passes_append : (steps : List StepJob) (some others : List Act) → passes steps (some ++ others) ≡ passes steps some ++ passes steps others
-passes_append steps [] others = refl
-passes_append steps (Mark n ∷ acts) others = passes_append steps acts others
-passes_append steps (PutTool k ∷ acts) others = passes_append steps acts others
-passes_append steps (Enter z ∷ acts) others = passes_append steps acts others
-passes_append steps (Locate p ∷ acts) others = passes_append steps acts others
-passes_append steps (AtRapid from to tool ∷ acts) others = passes_append steps acts others
-passes_append steps (AtFeed from to feed speed tool ∷ acts) others =
-    ap (λ (ps : List Pass). pass_of (body_of steps tool) from to ++ ps) (passes_append steps acts others)
-    ∙ sym (append_assoc (pass_of (body_of steps tool) from to) (passes steps acts) (passes steps others))
-passes_append steps (End ∷ acts) others = passes_append steps acts others
 
 -- acts without a mark leave the step current
 current_on : (job : Job) (step : StepJob) (done more : List Act) → marks more ≡ [] → IsCurrent job done step → IsCurrent job (done ++ more) step

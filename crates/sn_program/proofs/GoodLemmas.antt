@@ -13,14 +13,14 @@ use Rattle.sn_raster.specs.Heights.{node_of, Pass, IsMaterial}
 use Rattle.sn_open.specs.Good.{marks, passes, IsLeft, AreGood}
 use Rattle.sn_open.specs.Reach.{IsOpenCell, IsReachable}
 use Rattle.sn_open.specs.Region.{IsRequiredNode}
-use Rattle.sn_open.proofs.PassLemmas.{cut_stays_cut}
+use Rattle.sn_open.proofs.PassLemmas.{cut_stays_cut, marks_append}
 use Rattle.sn_link.specs.declared.moves.Move.{Move}
 use Rattle.sn_link.specs.Moves.{tip_for, tool_after, tip_after_step}
 use Rattle.sn_link.specs.Plan.{IsPlan}
 use Rattle.sn_link.specs.SafeLaws.{IsPlanned, PlannedMovesAreSafe, PlannedMovesEndAbove, PlannedMovesCutTheTargets}
 use Rattle.sn_program.specs.GoodLaws.{PlansAreGood}
 use Rattle.sn_program.specs.PlanActs.{step_acts, steps_acts, program_acts}
-use Rattle.sn_program.proofs.ActLemmas.{marks_append, one_more_mark, passes_after, steps_mark, EachRight, each_append, right_everywhere, step_right}
+use Rattle.sn_program.proofs.ActLemmas.{one_more_mark, passes_after, steps_mark, EachRight, each_append, right_everywhere, step_right}
 use Rattle.sn_program.proofs.PlannedLemmas.{steps_of, AreEachPlanned, here, steps_planned}
 use Rattle.sn_program.proofs.StepLines.{program_means}
 

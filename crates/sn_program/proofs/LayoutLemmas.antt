@@ -9,6 +9,7 @@ use Rattle.sn_geom.specs.Meaning.{Means}
 use Rattle.sn_geom.specs.MachineExamples.{word}
 use Rattle.sn_geom.specs.MeaningLaws.{ProgramsHaveOneMeaning}
 use Rattle.sn_gwrite.specs.AgreementExamples.{one_hole}
+use Rattle.sn_gwrite.specs.Program.{end_text}
 use Rattle.sn_program.specs.Layout.{HaveSameWords, SayTheSame}
 use Rattle.sn_program.specs.LayoutExamples.{one_hole_otherwise, one_hole_acts, LayoutsOfALine, OtherLayoutsMeanTheSame}
 use Rattle.sn_program.proofs.AlikeLemmas.{same_words, words_may_swap, equivalent}
@@ -61,7 +62,7 @@ layouts_of_a_line = (
 )
 
 one_hole_means : Means one_hole one_hole_acts
-unfolding clean item_at place_after beginning run is_faulty said_with is_number is_fine fraction whole decimals unsigned is_negative size_of has_letter places_of has_unit is_within is_accepted modal_word modal_words in_group mark_of begins_mark is_mark_number
+unfolding end_text clean item_at place_after beginning run is_faulty said_with is_number is_fine fraction whole decimals unsigned is_negative size_of has_letter places_of has_unit is_within is_accepted modal_word modal_words in_group mark_of begins_mark is_mark_number
 one_hole_means = program_means _ _ refl refl refl
 
 otherwise_means : Means one_hole_otherwise one_hole_acts

@@ -1,11 +1,9 @@
 -- Lines in the forms that are written, and what they say.
 use Rattle.std.proofs.Common.{ℕ, ◌≡◌, List, [], ◌∷◌, ◌++◌, map, refl, sym, ap, subst, ◌∙◌, append_assoc, append-nil}
 use Rattle.sn_geom.specs.Block.{lines_of}
-use Rattle.sn_gwrite.specs.Forms.{Form, form_text, form_block}
-use Rattle.sn_gwrite.specs.PartForms.{AreProper, forms_text}
-use Rattle.sn_gwrite.specs.PartFormsLaws.{IsTextOf}
-use Rattle.sn_gwrite.proofs.FormLines.{forms-lines}
-use Rattle.sn_gwrite.proofs.FormReadings.{forms-read}
+use Rattle.sn_gwrite.specs.Program.{Form, form_text, form_block, AreProper, forms_text}
+use Rattle.sn_gwrite.specs.ProgramLaws.{IsTextOf}
+use Rattle.sn_gwrite.proofs.FormReadings.{forms-lines, forms-read}
 use Rattle.sn_geom.specs.Meaning.{AreBlocks}
 
 says_each : (forms : List Form) → AreProper forms → AreBlocks (map form_text forms) (map form_block forms)

@@ -5,7 +5,7 @@ use Rattle.std.specs.Ordering.{int_eq}
 use Rattle.std.proofs.lemmas.Bool.Decides.{Decides-int_eq}
 use Rattle.sn_geom.specs.Length.{IsLength}
 use Rattle.sn_geom.specs.Block.{Block}
-use Rattle.sn_geom.specs.Machine.{State, Modes}
+use Rattle.sn_geom.specs.Machine.{State}
 use Rattle.sn_geom.specs.Sweep.{IsHorizontalOrVertical}
 use Rattle.sn_geom.specs.Tip.{tip_after}
 use Rattle.sn_geom.specs.declared.units.Pt3.{Pt3}
@@ -15,11 +15,11 @@ use Rattle.sn_geom.specs.declared.tip.Tip.{Tip}
 use Rattle.sn_geom.specs.declared.tip.Tip.TheVariants.{Unknown, Height, At}
 use Rattle.sn_geom.specs.Acts.{Act, RunsTo}
 use Rattle.sn_geom.specs.Acts.Act.{Locate, Rapid as AtRapid, Feed as AtFeed}
-use Rattle.sn_gwrite.specs.Forms.{Form, form_block}
-use Rattle.sn_gwrite.specs.Forms.Form.{HeightMotion, PlaneMotion}
-use Rattle.sn_gwrite.specs.PartForms.{motion_form}
-use Rattle.sn_gwrite.specs.PartFormsLaws.{IsTextOf}
+use Rattle.sn_gwrite.specs.Program.{Form, form_block, motion_form}
+use Rattle.sn_gwrite.specs.Program.Form.{HeightMotion, PlaneMotion}
+use Rattle.sn_gwrite.specs.ProgramLaws.{IsTextOf}
 use Rattle.sn_gwrite.proofs.PartLines.{motion-forms}
+use Rattle.sn_gwrite.proofs.PartRuns.{within}
 use Rattle.sn_link.specs.declared.moves.Move.{Move}
 use Rattle.sn_link.specs.declared.moves.Move.TheVariants.{Rapid, Feed}
 use Rattle.sn_link.specs.Moves.{end_of, tip_after_moves, MayMove, AreStraight}
@@ -53,26 +53,9 @@ moves_lines tip (move ∷ moves) within = text_append (move_lines tip move withi
 
 -- The machine between moves.
 
-abbrev pub all_modes : Modes
-all_modes = record { g21 = true; g17 = true; g90 = true; g94 = true; g40 = true; g61 = true }
-
 -- within a program, with a tool in the spindle that turns, and a tip
 abbrev pub working : Option MotionMode → ℕ → ℕ → ℕ → Tip → State
-working motion speed feed tool tip = record {
-  began = true;
-  within_percent = true;
-  closed = false;
-  ended = false;
-  modes = all_modes;
-  motion = motion;
-  feed = Some feed;
-  speed = Some speed;
-  chosen = Some tool;
-  tool = Some tool;
-  offset = true;
-  turning = true;
-  tip = tip;
-}
+working motion speed feed tool tip = within motion (Some feed) (Some speed) (Some tool) (Some tool) true true tip
 
 -- the speed, the feed and the tool are not 0
 pub record AreSet (speed feed tool : ℕ) : Type 0 where

@@ -1,16 +1,16 @@
 -- Programs that are read and run by computing.
-use Rattle.std.proofs.Common.{◌≡◌, ℕ, true, false, not, ◌&&◌, ◌==◌, Bool, None, List, [], ◌∷◌, ◌++◌, length, map, refl, sym, ◌∙◌, ap, subst, inl, if◌then◌else◌, ◌≤◌}
+use Rattle.std.proofs.Common.{◌≡◌, ℕ, true, false, not, ◌&&◌, ◌==◌, Bool, List, [], ◌∷◌, length, map, refl, sym, ◌∙◌, ap, subst, inl, if◌then◌else◌, ◌≤◌}
 use Rattle.std.proofs.lemmas.Bool.{and_parts, eqb-true, leb-true}
-use Rattle.std.specs.Prelude.{nat_le, filter, is_none, Option}
+use Rattle.std.specs.Prelude.{nat_le, filter}
 use Rattle.std.specs.List.{list_all}
 use Rattle.sn_geom.specs.declared.block.TheConstants.{MOST_LINE}
-use Rattle.sn_geom.specs.declared.machine.MachFault.{MachFault}
-use Rattle.sn_geom.specs.Acts.{Act, act_list, RunsTo}
+use Rattle.sn_geom.specs.Acts.{Act, RunsTo}
 use Rattle.sn_geom.specs.Block.{Block, lines_of}
 use Rattle.sn_geom.specs.LineText.{LineText, is_blank, items_of, said_by, nothing, empty_block}
-use Rattle.sn_geom.specs.Machine.{State, start, fault_of, acts_of, state_after}
+use Rattle.sn_geom.specs.Machine.{start}
 use Rattle.sn_geom.specs.Meaning.{AreBlocks, Means}
 use Rattle.sn_gwrite.proofs.ItemReadings.{all_clean, reads, says_known}
+use Rattle.sn_gwrite.proofs.LineRuns.{are_accepted, acts_of_all, blocks_are_run}
 
 -- ---- lines
 
@@ -59,25 +59,7 @@ lines_are_read (line ∷ lines) h =
     let (first, later) = and_parts (can_be_read line) (list_all can_be_read lines) h in
     (line_is_read line first, lines_are_read lines later)
 
--- ---- acts
-
-abbrev pub are_accepted : State → List Block → Bool
-are_accepted s [] = true
-are_accepted s (b ∷ bs) = is_none (fault_of s b) && are_accepted (state_after s b) bs
-
-abbrev pub acts_of_all : State → List Block → List Act
-acts_of_all s [] = []
-acts_of_all s (b ∷ bs) = act_list (acts_of s b) ++ acts_of_all (state_after s b) bs
-
-is_none-true : (fault : Option MachFault) → is_none fault ≡ true → fault ≡ None
-is_none-true None h = refl
-is_none-true (Option.Some m) h = cc
-
-pub blocks_are_run : (s : State) (blocks : List Block) → are_accepted s blocks ≡ true → RunsTo s blocks (acts_of_all s blocks)
-blocks_are_run s [] h = refl
-blocks_are_run s (b ∷ bs) h =
-    let (first, later) = and_parts (is_none (fault_of s b)) (are_accepted (state_after s b) bs) h in
-    (is_none-true (fault_of s b) first, (acts_of_all (state_after s b) bs, refl, blocks_are_run (state_after s b) bs later))
+-- ---- programs
 
 -- a program of which each line can be read, and is accepted
 pub program_means : (program : List ℕ) (acts : List Act) → list_all can_be_read (lines_of program) ≡ true

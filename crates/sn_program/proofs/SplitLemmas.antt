@@ -11,7 +11,7 @@ use Rattle.sn_geom.specs.Acts.{Act, RunsTo, act_list}
 use Rattle.sn_geom.specs.Block.{Block, has_axis, has_g, has_m, value_of, f_of, s_of, t_of, is_empty}
 use Rattle.sn_geom.specs.Machine.{State, Modes, motion_of, tip_after_words, stops, motion_after, modes_after, prepared, words_fault, fault_of, acts_of, state_after}
 use Rattle.sn_geom.specs.MachineExamples.{word, g, line}
-use Rattle.sn_gwrite.specs.Forms.{mode_word}
+use Rattle.sn_gwrite.specs.Program.{mode_word}
 use Rattle.sn_program.specs.Layout.{DoTheSame, DoTheWhole}
 use Rattle.sn_program.specs.LayoutLaws.{ModalMotionsMayBeLeftOut, RatesMayStandAlone, LinesMayBeReplaced}
 use Rattle.sn_program.proofs.AlikeLemmas.{HaveSameAxes, HaveSameTasks, lost_same, slanted_same, motion_same, tip_same, axis_same, words_fault_same, stops_same, do_the_same}

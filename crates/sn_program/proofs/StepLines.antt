@@ -11,24 +11,23 @@ use Rattle.sn_geom.specs.declared.tip.MotionMode.{MotionMode}
 use Rattle.sn_geom.specs.declared.tip.MotionMode.TheVariants as mode
 use Rattle.sn_geom.specs.declared.tip.Tip.{Tip}
 use Rattle.sn_geom.specs.declared.tip.Tip.TheVariants.{Unknown, Height}
-use Rattle.sn_gwrite.specs.Program.{head_text}
+use Rattle.sn_gwrite.specs.Program.{head_text, Form, form_block, AreProper, tools_forms, head_forms, mark_forms, change_forms, rates_forms, end_forms}
 use Rattle.sn_outline.specs.Job.{Job}
 use Rattle.sn_outline.specs.declared.job.StepJob.{StepJob}
 use Rattle.sn_geom.specs.Acts.{Act, RunsTo}
 use Rattle.sn_geom.specs.Acts.Act.{Mark, PutTool, Enter, End}
-use Rattle.sn_gwrite.specs.Forms.{Form, form_block}
-use Rattle.sn_gwrite.specs.Forms.Form.{PercentSign, StepMark, ToolChange, LengthOffset, SpindleSpeed, FeedRate, HeightMotion, ProgramEnd}
+use Rattle.sn_gwrite.specs.Program.Form.{StepMark, ToolChange, LengthOffset, SpindleSpeed, FeedRate, HeightMotion}
 use Rattle.sn_link.specs.declared.moves.Move.{Move}
 use Rattle.sn_link.specs.Moves.{is_in_spindle, tip_for, tool_after, tip_after_step}
 use Rattle.sn_program.specs.PlanActs.{move_acts, setting_acts, step_acts, steps_acts, program_acts, IsNumbered, IsWritable, AreWritable, AreNoted, IsWritableProgram}
 use Rattle.sn_program.specs.Text.{rise_text, setting_text, step_text, steps_text, program_text}
 use Rattle.sn_geom.specs.Meaning.{Means}
 use Rattle.sn_program.proofs.LineLemmas.{text_append, blocks_of_text}
-use Rattle.sn_gwrite.specs.PartForms.{AreProper, tools_forms, head_forms, mark_forms, change_forms, rates_forms, end_forms}
-use Rattle.sn_gwrite.specs.PartFormsLaws.{IsTextOf}
+use Rattle.sn_gwrite.specs.ProgramLaws.{IsTextOf}
 use Rattle.sn_gwrite.proofs.PartLines.{head-text, mark-forms, change-forms, rates-forms, end-forms}
+use Rattle.sn_gwrite.proofs.PartRuns.{within, end_runs}
 use Rattle.sn_link.proofs.MovesLemmas.{by_test}
-use Rattle.sn_program.proofs.MovesLemmas.{AreSet, RunsOn, all_modes, working, move_forms, moves_lines, moves_run}
+use Rattle.sn_program.proofs.MovesLemmas.{AreSet, RunsOn, working, move_forms, moves_lines, moves_run}
 
 -- The lines of steps.
 
@@ -90,7 +89,7 @@ program_lines job plan writable =
 
 -- within a program, before any step
 abbrev pub opened : State
-opened = record start { began = true; within_percent = true; modes = all_modes }
+opened = within None None None None None false false Unknown
 
 -- the machine runs the lines with these acts from between two steps on
 abbrev pub RunsFrom : Option ℕ → Tip → List Block → List Act → Type 0
@@ -107,28 +106,10 @@ are_set step numbered = record {
   tool_is = positive_test step.tool numbered.tool.0;
 }
 
--- any state between two lines of a program, before its end
-abbrev between : Option MotionMode → Option ℕ → Option ℕ → Option ℕ → Option ℕ → Bool → Bool → Tip → State
-between motion feed speed chosen tool offset turning tip = record {
-  began = true;
-  within_percent = true;
-  closed = false;
-  ended = false;
-  modes = all_modes;
-  motion = motion;
-  feed = feed;
-  speed = speed;
-  chosen = chosen;
-  tool = tool;
-  offset = offset;
-  turning = turning;
-  tip = tip;
-}
-
--- a tool change, from whichever such state
+-- a tool change, from any state within a program
 change_run : (motion : Option MotionMode) (f s c t : Option ℕ) (offset turning : Bool) (tip : Tip) (speed feed k : ℕ) (z : ℤ) (bs : List Block) (acts : List Act)
     → AreSet speed feed k → RunsOn speed feed k (Height z) bs acts
-    → RunsTo (between motion f s c t offset turning tip)
+    → RunsTo (within motion f s c t offset turning tip)
     (form_block (ToolChange k) ∷ form_block (LengthOffset k) ∷ form_block (SpindleSpeed speed) ∷ form_block (FeedRate feed) ∷ form_block (HeightMotion mode.Rapid z) ∷ bs)
     (PutTool k ∷ Enter z ∷ acts)
 change_run motion f s c t offset turning tip speed feed k z bs acts are next =
@@ -217,13 +198,13 @@ step_run job tool tip step (move ∷ moves) bs acts writable next =
     (joined tool tip (setting_forms job tool step) forms bs (setting_acts job tool step) all acts set)
 
 abbrev ending : List Block
-ending = form_block ProgramEnd ∷ form_block PercentSign ∷ []
+ending = map form_block end_forms
 
 -- all steps of a plan, and the end
 steps_run : (job : Job) (tool : Option ℕ) (tip : Tip) (plan : List (StepJob × List Move)) → AreWritable job tool tip plan
     → RunsFrom tool tip (map form_block (steps_forms job tool tip plan) ++ ending) (steps_acts job tool tip plan ++ End ∷ [])
-steps_run job None tip [] writable = (refl, ([], refl, (refl, ([], refl, refl))))
-steps_run job (Some k) tip [] writable = λ s f motion. (refl, ([], refl, (refl, ([], refl, refl))))
+steps_run job None tip [] writable = end_runs None None None None None false false Unknown
+steps_run job (Some k) tip [] writable = λ s f motion. end_runs motion (Some f) (Some s) (Some k) (Some k) true true tip
 steps_run job tool tip ((step, moves) ∷ later) writable =
     let next = tool_after tool step moves in
     let at = tip_after_step job tool tip step moves in
@@ -244,9 +225,9 @@ program_run job plan writable =
     let opening = tools_forms 1 job.tools in
     let steps = steps_forms job None Unknown plan in
     let run = tools_run 1 job.tools _ acts (steps_run job None Unknown plan writable) in
-    let parts : map form_block (opening ++ (steps ++ ProgramEnd ∷ PercentSign ∷ [])) ≡ map form_block opening ++ (map form_block steps ++ ending)
-    = map-append form_block opening (steps ++ ProgramEnd ∷ PercentSign ∷ [])
-    ∙ ap (λ (rest : List Block). map form_block opening ++ rest) (map-append form_block steps (ProgramEnd ∷ PercentSign ∷ [])) in
+    let parts : map form_block (opening ++ (steps ++ end_forms)) ≡ map form_block opening ++ (map form_block steps ++ ending)
+    = map-append form_block opening (steps ++ end_forms)
+    ∙ ap (λ (rest : List Block). map form_block opening ++ rest) (map-append form_block steps end_forms) in
     (refl, (acts, refl, (refl, (acts, refl, subst (λ (blocks : List Block). RunsTo opened blocks acts) (sym parts) run))))
 
 -- The machine runs the program of a plan whose moves are straight and in the range, and gives the acts of the plan.

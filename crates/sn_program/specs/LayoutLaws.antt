@@ -8,7 +8,7 @@ use Rattle.sn_geom.specs.LineTable.{is_modal, is_rate}
 use Rattle.sn_geom.specs.Machine.{State}
 use Rattle.sn_geom.specs.MachineExamples.{line}
 use Rattle.sn_geom.specs.Meaning.{Means, IsWholeLines}
-use Rattle.sn_gwrite.specs.Forms.{mode_word}
+use Rattle.sn_gwrite.specs.Program.{mode_word}
 use Rattle.sn_outline.specs.Job.{Job}
 use Rattle.sn_open.specs.Good.{Good}
 use Rattle.sn_program.specs.Layout.{AreEquivalent, HaveSameWords, AreSameLines, IsSilent, DoTheSame, DoTheWhole}

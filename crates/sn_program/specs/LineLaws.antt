@@ -1,8 +1,8 @@
 -- MEANING: laws of the forms of line that are written.
 use Rattle.std.specs.Prelude.{◌+◌, pos, neg_ℤ}
 use Rattle.sn_geom.specs.declared.limits.TheConstants.{REACH, MOST_TOOL, MOST_RATE}
-use Rattle.sn_gwrite.specs.Forms.{IsProper}
-use Rattle.sn_gwrite.specs.Forms.Form.{StepMark, ToolChange, LengthOffset, SpindleSpeed, FeedRate, HeightMotion, PlaneMotion}
+use Rattle.sn_gwrite.specs.Program.{IsProper}
+use Rattle.sn_gwrite.specs.Program.Form.{StepMark, ToolChange, LengthOffset, SpindleSpeed, FeedRate, HeightMotion, PlaneMotion}
 use Rattle.sn_geom.specs.declared.tip.MotionMode.TheVariants as mode
 
 -- the greatest numbers of a line that is written

@@ -1,6 +1,7 @@
 -- MEANING: laws of the text of a program.
 use Rattle.std.specs.Prelude.{◌≡◌, ◌∷◌, ◌++◌, ℤ, pos, neg_ℤ, List, [], codes}
 use Rattle.sn_geom.specs.declared.units.Pt3.{Pt3}
+use Rattle.sn_gwrite.specs.Program.{end_text}
 use Rattle.sn_outline.specs.Job.{Job}
 use Rattle.sn_outline.specs.declared.job.StepJob.{StepJob}
 use Rattle.sn_link.specs.declared.moves.Move.{Move}
@@ -30,7 +31,8 @@ StepsAreWritten =
     ++ codes "(WS #4)\nT1 M6\nG43 H1\nS2000 M3\nF300\nG0 Z20.000\nG0 X1.000 Y-0.500\nG1 Z-1.500\n"
     ++ codes "(WS #6)\nS900 M3\nF100\nG1 X2.000 Y0.000\n"
     ++ codes "(WS #7)\n"
-    ++ codes "(WS #9)\nT2 M6\nG43 H2\nS2000 M3\nF300\nG0 Z20.000\nG0 X1.000 Y-0.500\nM2\n%\n"
+    ++ codes "(WS #9)\nT2 M6\nG43 H2\nS2000 M3\nF300\nG0 Z20.000\nG0 X1.000 Y-0.500\n"
+    ++ end_text
 
 -- the machine runs the program of each plan that can be written without a fault, and gives the acts of the plan
 abbrev pub ProgramsGiveTheirActs : Type 0

@@ -10,3 +10,4 @@ mod writer;
 
 pub use numbers::instance_numbers;
 pub use program::write_program;
+pub use sn_gwrite::END;

@@ -8,7 +8,11 @@ pub mod HeightFirsts
 pub mod HeightRows
 pub mod HeightTops
 pub mod Margins
+pub mod MarkRuns
 pub mod Marks
+pub mod MarksBeside
+pub mod NeighbourPlanes
+pub mod PlaneRows
 pub mod Planes
 pub mod Besides
 pub mod Sides

@@ -1,12 +1,12 @@
 -- Planes over one grid, mark by mark and node by node.
-use Rattle.std.proofs.Common.{ℕ, ◌≡◌, ◌*◌, ◌/◌, ◌%◌, ◌<◌, ◌↔◌, ℤ, pos, ◌+ℤ◌, ◌-ℤ◌, ◌≤ℤ◌, unsigned_abs, Bool, true, false, IsTrue, List, length, get_or, refl, sym, ◌∙◌, subst, arith}
+use Rattle.std.proofs.Common.{ℕ, ◌≡◌, ◌*◌, ◌/◌, ◌%◌, ◌<◌, ◌↔◌, ℤ, pos, ◌+ℤ◌, ◌-ℤ◌, ◌≤ℤ◌, unsigned_abs, Bool, true, false, IsTrue, List, length, get_or, refl, sym, ap, ◌∙◌, subst, arith}
 use Rattle.std.proofs.lemmas.Nat.{div_below, mod_below, div-add-mod'}
 use Rattle.std.proofs.lemmas.List.{ext_get_or}
 use Rattle.std.proofs.lemmas.Bool.{false≢true}
 use Rattle.std.proofs.lemmas.Int.{ints, clamps}
 use Rattle.std.proofs.Math.Nat.{mul_comm}
 use Rattle.sn_raster.specs.Grid.{Grid, Node, IsInWindow, places}
-use Rattle.sn_raster.specs.Plane.{Has, mark_of}
+use Rattle.sn_raster.specs.Plane.{Plane, Has, mark_of}
 use Rattle.sn_raster.specs.PlaneLaws.{PlanesAreTheirNodes}
 use Rattle.sn_raster.proofs.GridParts.{some_left}
 
@@ -44,7 +44,7 @@ same_test true false to back = absurd (false≢true (to refl))
 same_test false true to back = absurd (false≢true (back refl))
 same_test false false to back = refl
 
-has_mark : (g : Grid) (marks : List Bool) (k : ℕ) → k < places g.i0 g.i1 * places g.j0 g.j1
+pub has_mark : (g : Grid) (marks : List Bool) (k : ℕ) → k < places g.i0 g.i1 * places g.j0 g.j1
     → Has (record { grid = g; marks = marks }) (node_of g k) ↔ IsTrue (get_or marks k false)
 has_mark g marks k below =
     let P : ℕ → Type 0 = λ m. IsTrue (get_or marks m false) in (
@@ -71,3 +71,15 @@ planes_are_their_nodes a b rule rule' grid same =
       (λ has. (same n).1 (subst (λ (g : Grid). P g n) grid has)),
     )) in
     λ k. record { grid = grid k; marks = marks k }
+
+-- a mark that is set in one plane alone is that of a node of that plane alone
+pub lone_node : (a b : Plane) (g h : Grid) (marks others : List Bool) → record { grid = g; marks = marks } ≡ a → record { grid = h; marks = others } ≡ b → b.grid ≡ a.grid
+    → length marks ≡ places g.i0 g.i1 * places g.j0 g.j1 → ((k : ℕ) × (k < length marks) × IsTrue (get_or marks k false) × ¬ IsTrue (get_or others k false)) → (n : Node) × Has a n × ¬ Has b n
+lone_node a b g h marks others view view' grids full (k, within, on, off) =
+    let n = node_of g k in
+    let same : h ≡ g = ap (λ (p : Plane). p.grid) view' ∙ grids ∙ sym (ap (λ (p : Plane). p.grid) view) in
+    let there : Has a n = subst (λ (p : Plane). Has p n) view ((has_mark g marks k (rw (← full) within)).1 on) in
+    let P : Grid → Type 0 = λ f. IsTrue (get_or others (mark_of f n) false) in
+    let Q : ℕ → Type 0 = λ m. IsTrue (get_or others m false) in
+    let lacks : ¬ Has b n = (λ has. off (subst Q (mark_of_node g k) (subst P same (subst (λ (p : Plane). Has p n) (sym view') has).marked))) in
+    (n, there, lacks)

@@ -1,8 +1,9 @@
 -- The run along a row, from its last node to its first.
-use Rattle.std.proofs.Common.{ℕ, ◌≡◌, ◌↔◌, ◌<◌, ◌≤◌, ℤ, pos, negsuc, unsigned_abs, ◌+ℤ◌, ◌-ℤ◌, ◌≤ℤ◌, ◌<ℤ◌, Bool, false, w32, to_z, of_z, refl, sym, ap, ◌∙◌, subst, arith}
+use Rattle.std.proofs.Common.{ℕ, ◌+◌, ◌*◌, ◌≡◌, ◌↔◌, ◌<◌, ◌≤◌, ℤ, pos, negsuc, unsigned_abs, ◌+ℤ◌, ◌-ℤ◌, ◌≤ℤ◌, ◌<ℤ◌, Bool, false, w32, to_z, of_z, refl, sym, ap, ◌∙◌, subst, arith}
 use Rattle.std.proofs.lemmas.Int.{ints, clamps, by_lt_z, to_z-of_z}
 use Rattle.sn_geom.proofs.Ring.{sums}
 use Rattle.sn_geom.specs.Length.{IsLength}
+use Rattle.sn_geom.specs.declared.limits.TheConstants.{REACH}
 use Rattle.sn_raster.specs.Grid.{Grid, Node, places}
 use Rattle.sn_raster.specs.Plane.{Plane, Has}
 use Rattle.sn_raster.specs.RowTurns.{at, bit, differs}
@@ -56,10 +57,10 @@ pub run_all : (g : Grid) (j : ℤ) (old new : Plane) (odd : Bool) (i : ℤ) → 
 run_all g j old new odd i past run f tests k low high = run.after f tests k low high (omega (arith, sums))
 
 -- the column that is reached after k of them
-column_size : (first last : ℤ) (k : ℕ) → IsLength first → IsLength last → k < places first last → unsigned_abs (last -ℤ pos k) ≤ 2000001
+column_size : (first last : ℤ) (k : ℕ) → IsLength first → IsLength last → k < places first last → unsigned_abs (last -ℤ pos k) ≤ REACH + 1
 column_size first last k first_length last_length below = omega (arith, ints, clamps)
 
-kept_small : (z : ℤ) → unsigned_abs z ≤ 2000001 → to_z w32 (of_z w32 z) ≡ z
+kept_small : (z : ℤ) → unsigned_abs z ≤ REACH + 1 → to_z w32 (of_z w32 z) ≡ z
 kept_small (pos n) h = to_z-of_z w32 (pos n) (record { sfits = omega arith })
 kept_small (negsuc n) h = to_z-of_z w32 (negsuc n) (record { sfits = omega arith })
 
@@ -79,10 +80,10 @@ column_past first last k above = omega (arith, ints, clamps)
 pub count_as : (first first' last last' : ℤ) (n : ℕ) → first' ≡ first → last' ≡ last → n ≡ places first' last' → n ≡ places first last
 count_as first first' last last' n e f is = rw (is, e, f) refl
 
-places_few : (first last : ℤ) → IsLength first → IsLength last → places first last ≤ 4000001
+places_few : (first last : ℤ) → IsLength first → IsLength last → places first last ≤ 2 * REACH + 1
 places_few first last h k = omega (arith, ints, clamps)
 
-natural : (k : ℕ) → k < 4000002 → to_z w32 k ≡ pos k
+natural : (k : ℕ) → k < 2 * REACH + 2 → to_z w32 k ≡ pos k
 natural k h = omega (arith, ints)
 
 pub natural_column : (first last : ℤ) (k : ℕ) → IsLength first → IsLength last → k < places first last → to_z w32 k ≡ pos k

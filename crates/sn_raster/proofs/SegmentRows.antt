@@ -10,36 +10,10 @@ use Rattle.sn_outline.specs.Polygon.{path}
 use Rattle.sn_raster.specs.Grid.{Grid, Node, IsInWindow}
 use Rattle.sn_raster.specs.Plane.{Plane, Has}
 use Rattle.sn_raster.specs.RowTurns.{at}
-use Rattle.sn_raster.proofs.Marks.{in_own_window}
 use Rattle.sn_raster.proofs.HeightMaps.{same_place}
 
 along : {A B C : Type 0} → (A ↔ B) → (B ↔ C) → (A ↔ C)
 along f g = ((λ a. g.0 (f.0 a)), (λ c. f.1 (g.1 c)))
-
--- ---- clearing
--- the nodes of the row before column i are out, and the other rows are as before
-pub record IsClearedTo (g : Grid) (j : ℤ) (old new : Plane) (i : ℤ) : Type 0 where
-  pub grid : new.grid ≡ g
-  pub row : (n : Node) → n.j ≡ j → n.i <ℤ i → ¬ Has new n
-  pub others : (n : Node) → ¬ (n.j ≡ j) → Has new n ↔ Has old n
-
-pub none_cleared : (g : Grid) (j : ℤ) (plane : Plane) (i : ℤ) → plane.grid ≡ g → i ≡ g.i0 → IsClearedTo g j plane plane i
-none_cleared g j plane i same first = record {
-  grid = same;
-  row = λ n on before has. let window = in_own_window g plane.grid n (sym same) has.in_window in let left = window.left in omega (arith, sums);
-  others = λ n off. ((λ has. has), (λ has. has));
-}
-
-pub cleared_one : (g : Grid) (j : ℤ) (old mid new : Plane) (i next : ℤ) (n : Node) → next ≡ i +ℤ pos 1 → n ≡ at i j → new.grid ≡ mid.grid → ¬ Has new n
-    → ((m : Node) → ¬ (m ≡ n) → Has new m ↔ Has mid m) → IsClearedTo g j old mid i → IsClearedTo g j old new next
-cleared_one g j old mid new i next n is here same out others cleared = record {
-  grid = same ∙ cleared.grid;
-  row = λ m on before has.
-      by_lt_z m.i i
-      (λ earlier. cleared.row m on earlier ((others m (λ e. let column : m.i ≡ i = ap (λ k. k.i) (e ∙ here) in omega (arith, sums))).0 has))
-      (λ reached. let column : m.i ≡ i = omega (arith, sums) in out (subst (λ (k : Node). Has new k) (same_place m.i i m.j j column on ∙ sym here) has));
-  others = λ m off. along (others m (λ e. off (ap (λ k. k.j) (e ∙ here)))) (cleared.others m off);
-}
 
 -- ---- marking
 -- the nodes of the row before column i that P holds of are put in, those from i on and the other rows are as before
@@ -52,7 +26,7 @@ pub record IsMarkedTo (P : Node → Type 0) (g : Grid) (j : ℤ) (old new : Plan
 pub or_none : {A B : Type 0} → ¬ B → A ↔ (A ⊎ B)
 or_none none = ((λ a. inl a), (λ either. ⊎_elim (λ a. a) (λ b. absurd (none b)) either))
 
-or_as : {A B C : Type 0} → (A ↔ B) → (A ⊎ C) ↔ (B ⊎ C)
+pub or_as : {A B C : Type 0} → (A ↔ B) → (A ⊎ C) ↔ (B ⊎ C)
 or_as f = ((λ e. ⊎_elim (λ a. inl (f.0 a)) (λ c. inr c) e), (λ e. ⊎_elim (λ b. inl (f.1 b)) (λ c. inr c) e))
 
 pub marked_to_first : (P : Node → Type 0) (g : Grid) (j : ℤ) (plane : Plane) (i first : ℤ) → plane.grid ≡ g → i ≡ first → ((n : Node) → IsInWindow g n → n.j ≡ j → P n → first ≤ℤ n.i)

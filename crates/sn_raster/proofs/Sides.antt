@@ -5,6 +5,7 @@ use Rattle.std.proofs.lemmas.Int.{ints, by_lt_z, to_z-of_z}
 use lib.Signed.{mag}
 use Rattle.std.proofs.Math.IntN.{*ℤ_comm, *ℤ-zero}
 use Rattle.sn_geom.proofs.Ring.{sums, expand, le_of_product_le}
+use Rattle.sn_geom.specs.declared.limits.TheConstants.{REACH}
 use Rattle.sn_geom.specs.Sweep.{Near, offset_at, square}
 use Rattle.sn_geom.specs.declared.units.Pt.{Pt}
 use Rattle.sn_geom.specs.declared.units.Seg.{Seg}
@@ -29,10 +30,10 @@ long_size (negsuc k) n h less = omega arith
 pub kept_within : (z : ℤ) → unsigned_abs z ≤ 4611686018427387904 → to_z w64 (of_z w64 z) ≡ z
 kept_within z h = kept_long z (long_size z 4611686018427387904 h (omega arith))
 
-one_less_size : (z : ℤ) → unsigned_abs z ≤ 32000000000000 → unsigned_abs (z -ℤ pos 1) ≤ 4611686018427387904
+one_less_size : (z : ℤ) → unsigned_abs z ≤ 8 * (REACH * REACH) → unsigned_abs (z -ℤ pos 1) ≤ 4611686018427387904
 one_less_size z h = omega (arith, ints)
 
-pub one_less : (lead : ℤ) → unsigned_abs lead ≤ 32000000000000 → to_z w64 (of_z w64 (to_z w64 (of_z w64 lead) -ℤ pos 1)) ≡ lead -ℤ pos 1
+pub one_less : (lead : ℤ) → unsigned_abs lead ≤ 8 * (REACH * REACH) → to_z w64 (of_z w64 (to_z w64 (of_z w64 lead) -ℤ pos 1)) ≡ lead -ℤ pos 1
 one_less lead h = ap (λ z. to_z w64 (of_z w64 (z -ℤ pos 1))) (kept_within lead (omega arith)) ∙ kept_within (lead -ℤ pos 1) (one_less_size lead h)
 
 -- ---- leads

@@ -2,6 +2,8 @@ pub mod Grid
 pub mod GridLaws
 pub mod HeightLaws
 pub mod Heights
+pub mod MarksBeside
+pub mod Neighbours
 pub mod Plane
 pub mod PlaneLaws
 pub mod Reach

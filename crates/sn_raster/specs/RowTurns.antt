@@ -1,5 +1,5 @@
 -- PRIVATE: rows of planes on the way to being filled (the code's own words).
-use Rattle.std.specs.Prelude.{Bool, true, false, not, ◌&&◌, ℤ, pos, int_le, int_lt, List, [], ◌∷◌, slice_index_or}
+use Rattle.std.specs.Prelude.{◌≡◌, Bool, true, false, not, ◌&&◌, ℤ, pos, ◌≤ℤ◌, int_le, int_lt, List, [], ◌∷◌, slice_index_or}
 use Rattle.sn_geom.specs.declared.units.Seg.{Seg}
 use Rattle.sn_outline.specs.Polygon.{beside, crosses_right}
 use Rattle.sn_raster.specs.Grid.{Grid, Node, place}
@@ -7,6 +7,12 @@ use Rattle.sn_raster.specs.Plane.{Plane, mark_of}
 
 abbrev pub at : ℤ → ℤ → Node
 at i j = record { i = i; j = j }
+
+-- the node is in row j, from the first column to the last
+pub record IsInRun (first last j : ℤ) (n : Node) : Type 0 where
+  pub row : n.j ≡ j
+  pub left : first ≤ℤ n.i
+  pub right : n.i ≤ℤ last
 
 -- whether the plane has the node, for a node of the window
 abbrev pub bit : Plane → Node → Bool

@@ -8,10 +8,10 @@ ghost use Rattle.sn_raster.specs.Plane.{Has};
 ghost use Rattle.sn_raster.specs.Heights.{node_of, Pass, IsTouchedCell, IsFirst, IsRawSlab, HasCell, StandsFor, IsCutBy, IsHeight, height_of, IsTop, IsTopOfCells, IsCount, cells_left};
 
 use crate::bits::{Bits, mark, nodes_of};
-use crate::fill::place_of;
 use crate::grid::Grid;
 use crate::height_laws::counts;
 use crate::laws::grids;
+use crate::outlines::place_of;
 use crate::reach::{columns_near, rows_near};
 use crate::tops::{sum_above, top_of_rows};
 use sn_geom::laws::touching;

@@ -6,8 +6,8 @@ ghost use Rattle.sn_outline.specs.Polygon.{beside};
 ghost use Rattle.sn_raster.specs.Grid.{Node, IsInWindow, place};
 ghost use Rattle.sn_raster.specs.RowTurns.{at};
 
-use crate::fill::place_of;
 use crate::grid::Grid;
+use crate::outlines::place_of;
 use crate::places::Places;
 use sn_geom::{Offset, Pt, REACH, Um};
 

@@ -3,13 +3,15 @@
 //! Lengths are whole micrometres.
 #![tactic(auto)]
 
+mod beside;
 mod bits;
-mod fill;
+mod filling;
 mod grid;
 pub mod height_laws;
 mod heights;
 pub mod laws;
 mod leads;
+mod outlines;
 mod places;
 mod reach;
 mod segments;
@@ -18,9 +20,7 @@ mod tops;
 mod turns;
 
 pub use bits::Bits;
-pub use fill::fill_row;
+pub use filling::{add_near, fill};
 pub use grid::{Big, Grid};
 pub use heights::Heights;
-
-#[cfg(test)]
-mod tests;
+pub use outlines::fill_row;

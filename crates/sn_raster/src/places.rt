@@ -1,5 +1,6 @@
 //! The places of an axis: the columns or the rows whose coordinates are multiples of the pitch.
 ghost use Rattle.std.specs.Prelude.{◌≡◌, ◌↔◌, ◌+◌, ◌*◌, ◌≤◌, pos, ◌+ℤ◌, ◌-ℤ◌, IsTrue, unsigned_abs};
+ghost use Rattle.std.specs.Int.{int_min, int_max};
 ghost use Rattle.sn_geom.specs.Length.{IsLength};
 ghost use Rattle.sn_outline.specs.JobRule.{IsPitch};
 ghost use Rattle.sn_raster.specs.Grid.{first_place, last_place, places, AreInRange};
@@ -38,6 +39,19 @@ impl Places {
         Places {
             first: first_from(low.get() - margin as i32, pitch),
             last: last_up_to(high.get() + margin as i32, pitch),
+        }
+    }
+
+    /// Those of them from `first` to `last`.
+    pub(crate) fn cut_to(&self, first: i32, last: i32) -> Places
+        requires first { IsLength first }
+        requires last { IsLength last }
+        ensures first { result.first ≡ int_max self.now.first first }
+        ensures last { result.last ≡ int_min self.now.last last }
+    {
+        Places {
+            first: self.first.max(first),
+            last: self.last.min(last),
         }
     }
 

@@ -7,11 +7,11 @@ ghost use Rattle.sn_raster.specs.Grid.{Node, IsInWindow, place};
 ghost use Rattle.sn_raster.specs.Plane.{Has};
 
 use crate::bits::Bits;
-use crate::fill::place_of;
 use crate::grid::Grid;
 use crate::leads::column_on;
+use crate::outlines::place_of;
 use crate::places::Places;
-use crate::reach::{columns_near, rows_near};
+use crate::reach::{all_columns, columns_near, rows_near};
 use sn_geom::{Pt, REACH, Seg, near};
 
 /// Takes the nodes of row `j` out.
@@ -23,10 +23,8 @@ pub(crate) fn clear_row(g: &Grid, j: i32, row: &mut Bits)
     ensures row { (n : Node) → n.j ≡ j → ¬ Has row.new n }
     ensures others { (n : Node) → ¬ (n.j ≡ j) → Has row.new n ↔ Has row.old n }
 {
-    g.rule();
-    for i in g.i0..g.i1 + 1 {
-        row.set(i, j, false);
-    }
+    let columns = all_columns(g);
+    row.set_run(&columns, j, false);
 }
 
 /// Puts the nodes of row `j` in that are within half of `d` of the path from `from` through the points.
@@ -50,7 +48,7 @@ pub(crate) fn mark_path(d: u32, from: &Pt, points: &[Pt], g: &Grid, j: i32, row:
 }
 
 /// Puts the nodes of row `j` in that are within half of `d` of the segment.
-fn mark_segment(d: u32, e: &Seg, g: &Grid, j: i32, row: &mut Bits)
+pub(crate) fn mark_segment(d: u32, e: &Seg, g: &Grid, j: i32, row: &mut Bits)
     requires diameter { d ≤ REACH }
     requires columns { g.now.i0 ≤ℤ g.now.i1 }
     requires first { g.now.j0 ≤ℤ j }

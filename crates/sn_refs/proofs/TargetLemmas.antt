@@ -23,9 +23,9 @@ use Rattle.sn_model.specs.declared.model.Entry.TheVariants.{Typed, Bad}
 use Rattle.sn_model.specs.BuiltLaws.{KeptByRow}
 use Rattle.sn_model.specs.ModelContent.{ModelContent, entry_of, row_of_number}
 use Rattle.sn_refs.specs.declared.reference.Reference.{Reference}
-use Rattle.sn_refs.specs.Reference.{fields_from, reference, references, references_of_value, references_of_values, references_of_entry, names_block, IsOfKind, Names, IsReached}
+use Rattle.sn_refs.specs.Reference.{fields_from, reference, references, references_of_value, references_of_values, references_of_entry, IsOfKind, Names, IsReached}
 use Rattle.sn_refs.specs.Sound.{IsSound}
-use Rattle.sn_refs.specs.Target.{values_from, values_of, read_at, is_reference, is_list, is_number, is_three, may_be, must_be, group_of, group_at, IsTarget, AllNamed, AreTargetsOf, NamedAreTargets, NamesAtPlaces, IsShownAs, ReachedAreShown}
+use Rattle.sn_refs.specs.Target.{values_from, values_of, read_at, is_reference, is_list, is_number, is_three, may_be, must_be, group_of, group_at, IsTarget, AllNamed, AreTargetsOf, NamedAreTargets, NamesAtPlaces, ReachedAreShown}
 use Rattle.sn_refs.proofs.Chains.{reached_on, leads_by_name}
 use Rattle.sn_refs.proofs.ModelLemmas.{HasRows, reached_is_shown, IsOfItsRow, shown_is_of_its_row}
 use Rattle.sn_refs.proofs.Paths.{Contains-nil, Contains-cons_cases}

@@ -1,4 +1,5 @@
 pub mod Generated
+pub mod Fields
 pub mod Report
 pub mod GeneratedLaws
 pub mod JobCounts

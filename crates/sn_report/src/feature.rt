@@ -1,12 +1,12 @@
 //! The features of the generated part, and the instances of each.
-ghost use Rattle.std.specs.Prelude.{◌≡◌, ◌<◌, ◌^◌, IfOk};
-ghost use Rattle.sn_report.specs.Generated.{first_number, depth_of, feature_params, operation_params, roughing_params, finishing_params, slot_params, workingstep, corner_of, bottom_of, places_of, head_of, hole_rest, pocket_rest, slot_rest, rest_of, instances_of, steps_of};
+ghost use Rattle.std.specs.Prelude.{◌≡◌, ◌<◌, ◌^◌, map, IfOk};
+ghost use Rattle.sn_report.specs.Fields.{param_of};
+ghost use Rattle.sn_report.specs.Generated.{simple, instance, first_number, depth_of, feature_params, operation_params, roughing_params, finishing_params, slot_params, workingstep, corner_of, bottom_of, places_of, head_of, hole_rest, pocket_rest, slot_rest, rest_of, instances_of, steps_of};
 
-use crate::params::{
-    below_zero, empty_list, instance, nones, placement, point, real, size, text, whole,
-};
+use crate::params::Field::{self, Absent, BelowZero, Real, Ref, Refs, Text, Whole};
+use crate::params::{instance, joined, placement, point, size};
 use sn_geom::Memory;
-use sn_p21::{Instance, Param};
+use sn_p21::Instance;
 use std::alloc::Global;
 
 /// A feature, with its lengths in millimetres.
@@ -70,47 +70,28 @@ fn head_of(alloc: Global, n: u32, feature: Feature) -> Result<Instance, Memory>
 {
     match feature {
         Feature::Hole => {
-            let behind = vec![in alloc; Param::Ref(22), Param::Absent, Param::Ref(20)]?;
-            instance(alloc, n, b"ROUND_HOLE", feature_params(alloc, n, behind)?)
+            let behind = [Ref(22), Absent, Ref(20)];
+            feature_head(alloc, n, b"ROUND_HOLE", &behind)
         }
         Feature::Pocket { .. } => {
-            let behind = vec![in alloc;
-                empty_list(alloc),
-                Param::Absent,
-                Param::Ref(21),
-                Param::Absent,
-                Param::Absent,
-                Param::Ref(n + 6),
-            ]?;
-            instance(
-                alloc,
-                n,
-                b"CLOSED_POCKET",
-                feature_params(alloc, n, behind)?,
-            )
+            let behind = [Refs(&[]), Absent, Ref(21), Absent, Absent, Ref(n + 6)];
+            feature_head(alloc, n, b"CLOSED_POCKET", &behind)
         }
         Feature::Slot { .. } => {
-            let behind = vec![in alloc; Param::Ref(n + 6), Param::Ref(n + 7), empty_list(alloc)]?;
-            instance(alloc, n, b"SLOT", feature_params(alloc, n, behind)?)
+            let behind = [Ref(n + 6), Ref(n + 7), Refs(&[])];
+            feature_head(alloc, n, b"SLOT", &behind)
         }
     }
 }
 
-/// The parameters of a feature, those behind its depth given: its name, its workpiece, its operations (none are named),
-/// its placement and its depth.
-fn feature_params(alloc: Global, n: u32, mut behind: Vec<Param>) -> Result<Vec<Param>, Memory>
+/// A feature of this keyword, with the fields behind its depth: its name, its workpiece, its operations (none are named),
+/// its placement, its depth and these.
+fn feature_head(alloc: Global, n: u32, keyword: &[u8], behind: &[Field]) -> Result<Instance, Memory>
     requires { n < 2 ^ 31 }
-    ensures { IfOk result (λ params. params.items ≡ feature_params n behind.items) }
+    ensures { IfOk result (λ i. i ≡ simple n keyword.now (feature_params n (map param_of behind.now))) }
 {
-    let mut params = vec![in alloc;
-        text(alloc, b"")?,
-        Param::Ref(3),
-        empty_list(alloc),
-        Param::Ref(n + 1),
-        Param::Ref(n + 3),
-    ]?;
-    params.append(&mut behind)?;
-    Ok(params)
+    let front = [Text(b""), Ref(3), Refs(&[]), Ref(n + 1), Ref(n + 3)];
+    joined(alloc, n, keyword, &front, behind)
 }
 
 /// The point at which the feature of this place stands.
@@ -118,21 +99,17 @@ fn corner_of(alloc: Global, number: u32, place: u32) -> Result<Instance, Memory>
     requires { place < 2 ^ 16 }
     ensures { IfOk result (λ i. i ≡ corner_of number place) }
 {
-    let x = whole(alloc, 20 + 40 * (place % 4))?;
-    let y = whole(alloc, 20 + 40 * (place / 4))?;
-    point(alloc, number, vec![in alloc; x, y, real(alloc, b"20.")?]?)
+    let x = Whole(20 + 40 * (place % 4));
+    let y = Whole(20 + 40 * (place / 4));
+    point(alloc, number, &[x, y, Real(b"20.")])
 }
 
 /// The point of a feature's floor, from where it stands.
 fn bottom_of(alloc: Global, number: u32, feature: Feature) -> Result<Instance, Memory>
     ensures { IfOk result (λ i. i ≡ bottom_of number feature) }
 {
-    let depth = below_zero(alloc, depth_of(feature))?;
-    point(
-        alloc,
-        number,
-        vec![in alloc; real(alloc, b"0.")?, real(alloc, b"0.")?, depth]?,
-    )
+    let depth = BelowZero(depth_of(feature));
+    point(alloc, number, &[Real(b"0."), Real(b"0."), depth])
 }
 
 /// The placement of a feature, and the plane of its depth.
@@ -141,14 +118,13 @@ fn places_of(alloc: Global, place: u32, n: u32, feature: Feature) -> Result<Vec<
     requires number { n < 2 ^ 31 }
     ensures { IfOk result (λ rows. rows.items ≡ places_of place n feature) }
 {
-    let plane = vec![in alloc; text(alloc, b"")?, Param::Ref(n + 4)]?;
-    Ok(vec![in alloc;
-        placement(alloc, n + 1, n + 2)?,
-        corner_of(alloc, n + 2, place)?,
-        instance(alloc, n + 3, b"PLANE", plane)?,
-        placement(alloc, n + 4, n + 5)?,
-        bottom_of(alloc, n + 5, feature)?,
-    ]?)
+    let mut rows = Vec::new(alloc);
+    rows.push(placement(alloc, n + 1, n + 2)?)?;
+    rows.push(corner_of(alloc, n + 2, place)?)?;
+    rows.push(instance(alloc, n + 3, b"PLANE", &[Text(b""), Ref(n + 4)])?)?;
+    rows.push(placement(alloc, n + 4, n + 5)?)?;
+    rows.push(bottom_of(alloc, n + 5, feature)?)?;
+    Ok(rows)
 }
 
 /// The operations and the workingsteps of a feature, and what its outline is made of.
@@ -167,107 +143,134 @@ fn hole_rest(alloc: Global, n: u32) -> Result<Vec<Instance>, Memory>
     requires { n < 2 ^ 31 }
     ensures { IfOk result (λ rows. rows.items ≡ hole_rest n) }
 {
-    let drilling = operation_params(alloc, 15, nones(alloc, 7)?)?;
-    Ok(vec![in alloc;
-        instance(alloc, n + 6, b"DRILLING", drilling)?,
-        workingstep(alloc, n + 7, n, n + 6)?,
-    ]?)
+    let mut rows = Vec::new(alloc);
+    rows.push(operation(alloc, n + 6, b"DRILLING", 15, &[Absent; 7])?)?;
+    rows.push(workingstep(alloc, n + 7, n, n + 6)?)?;
+    Ok(rows)
 }
 
 fn pocket_rest(alloc: Global, n: u32, width: u32, length: u32) -> Result<Vec<Instance>, Memory>
     requires { n < 2 ^ 31 }
     ensures { IfOk result (λ rows. rows.items ≡ pocket_rest n width length) }
 {
-    let profile = vec![in alloc; Param::Absent, Param::Ref(n + 7), Param::Ref(n + 8)]?;
-    let rough = roughing_params(alloc)?;
-    let finish = finishing_params(alloc)?;
-    Ok(vec![in alloc;
-        instance(alloc, n + 6, b"RECTANGULAR_CLOSED_PROFILE", profile)?,
-        size(alloc, n + 7, whole(alloc, width)?)?,
-        size(alloc, n + 8, whole(alloc, length)?)?,
-        instance(alloc, n + 9, b"BOTTOM_AND_SIDE_ROUGH_MILLING", rough)?,
-        instance(alloc, n + 10, b"BOTTOM_AND_SIDE_FINISH_MILLING", finish)?,
-        workingstep(alloc, n + 11, n, n + 9)?,
-        workingstep(alloc, n + 12, n, n + 10)?,
-    ]?)
+    let profile = [Absent, Ref(n + 7), Ref(n + 8)];
+    let mut rows = Vec::new(alloc);
+    rows.push(instance(alloc, n + 6, b"RECTANGULAR_CLOSED_PROFILE", &profile)?)?;
+    rows.push(size(alloc, n + 7, Whole(width))?)?;
+    rows.push(size(alloc, n + 8, Whole(length))?)?;
+    rows.push(roughing(alloc, n + 9)?)?;
+    rows.push(finishing(alloc, n + 10)?)?;
+    rows.push(workingstep(alloc, n + 11, n, n + 9)?)?;
+    rows.push(workingstep(alloc, n + 12, n, n + 10)?)?;
+    Ok(rows)
 }
 
-/// The parameters of the roughing of a pocket: axial and radial depth, and the allowances.
-fn roughing_params(alloc: Global) -> Result<Vec<Param>, Memory>
-    ensures { IfOk result (λ params. params.items ≡ roughing_params) }
+/// The roughing of a pocket: axial and radial depth, and the allowances.
+fn roughing(alloc: Global, number: u32) -> Result<Instance, Memory>
+    ensures { IfOk result (λ i. i ≡ instance number "BOTTOM_AND_SIDE_ROUGH_MILLING" roughing_params) }
 {
-    let mut behind = nones(alloc, 5)?;
-    behind.push(real(alloc, b"3.")?)?;
-    behind.push(real(alloc, b"4.")?)?;
-    behind.push(real(alloc, b"0.5")?)?;
-    behind.push(real(alloc, b"0.5")?)?;
-    operation_params(alloc, 12, behind)
+    let behind = [
+        Absent,
+        Absent,
+        Absent,
+        Absent,
+        Absent,
+        Real(b"3."),
+        Real(b"4."),
+        Real(b"0.5"),
+        Real(b"0.5"),
+    ];
+    operation(alloc, number, b"BOTTOM_AND_SIDE_ROUGH_MILLING", 12, &behind)
 }
 
-/// The parameters of the finishing of a pocket: axial and radial depth, and no allowances.
-fn finishing_params(alloc: Global) -> Result<Vec<Param>, Memory>
-    ensures { IfOk result (λ params. params.items ≡ finishing_params) }
+/// The finishing of a pocket: axial and radial depth, and no allowances.
+fn finishing(alloc: Global, number: u32) -> Result<Instance, Memory>
+    ensures { IfOk result (λ i. i ≡ instance number "BOTTOM_AND_SIDE_FINISH_MILLING" finishing_params) }
 {
-    let mut behind = nones(alloc, 5)?;
-    behind.push(real(alloc, b"5.")?)?;
-    behind.push(real(alloc, b"4.")?)?;
-    behind.append(&mut nones(alloc, 2)?)?;
-    operation_params(alloc, 12, behind)
+    let behind = [
+        Absent,
+        Absent,
+        Absent,
+        Absent,
+        Absent,
+        Real(b"5."),
+        Real(b"4."),
+        Absent,
+        Absent,
+    ];
+    operation(
+        alloc,
+        number,
+        b"BOTTOM_AND_SIDE_FINISH_MILLING",
+        12,
+        &behind,
+    )
 }
 
-/// The parameters of the milling of a slot: axial depth, and no more.
-fn slot_params(alloc: Global) -> Result<Vec<Param>, Memory>
-    ensures { IfOk result (λ params. params.items ≡ slot_params) }
+/// The milling of a slot: axial depth, and no more.
+fn slot_milling(alloc: Global, number: u32) -> Result<Instance, Memory>
+    ensures { IfOk result (λ i. i ≡ instance number "BOTTOM_AND_SIDE_FINISH_MILLING" slot_params) }
 {
-    let mut behind = nones(alloc, 5)?;
-    behind.push(real(alloc, b"2.")?)?;
-    behind.append(&mut nones(alloc, 3)?)?;
-    operation_params(alloc, 12, behind)
+    let behind = [
+        Absent,
+        Absent,
+        Absent,
+        Absent,
+        Absent,
+        Real(b"2."),
+        Absent,
+        Absent,
+        Absent,
+    ];
+    operation(
+        alloc,
+        number,
+        b"BOTTOM_AND_SIDE_FINISH_MILLING",
+        12,
+        &behind,
+    )
 }
 
 fn slot_rest(alloc: Global, n: u32, length: u32) -> Result<Vec<Instance>, Memory>
     requires { n < 2 ^ 31 }
     ensures { IfOk result (λ rows. rows.items ≡ slot_rest n length) }
 {
-    let course = vec![in alloc; Param::Absent, Param::Ref(n + 8), Param::Ref(19)]?;
-    let mut profile = vec![in alloc; Param::Absent, Param::Ref(23)]?;
-    profile.append(&mut nones(alloc, 4)?)?;
-    let milling = slot_params(alloc)?;
-    Ok(vec![in alloc;
-        instance(alloc, n + 6, b"LINEAR_PATH", course)?,
-        instance(alloc, n + 7, b"SQUARE_U_PROFILE", profile)?,
-        size(alloc, n + 8, whole(alloc, length)?)?,
-        instance(alloc, n + 9, b"BOTTOM_AND_SIDE_FINISH_MILLING", milling)?,
-        workingstep(alloc, n + 10, n, n + 9)?,
-    ]?)
+    let course = [Absent, Ref(n + 8), Ref(19)];
+    let profile = [Absent, Ref(23), Absent, Absent, Absent, Absent];
+    let mut rows = Vec::new(alloc);
+    rows.push(instance(alloc, n + 6, b"LINEAR_PATH", &course)?)?;
+    rows.push(instance(alloc, n + 7, b"SQUARE_U_PROFILE", &profile)?)?;
+    rows.push(size(alloc, n + 8, Whole(length))?)?;
+    rows.push(slot_milling(alloc, n + 9)?)?;
+    rows.push(workingstep(alloc, n + 10, n, n + 9)?)?;
+    Ok(rows)
 }
 
-/// The parameters of an operation, those behind its technology given: two before its tool, its tool and its technology.
-fn operation_params(alloc: Global, tool: u32, mut behind: Vec<Param>) -> Result<Vec<Param>, Memory>
-    ensures { IfOk result (λ params. params.items ≡ operation_params tool behind.items) }
+/// An operation of this keyword: two fields before its tool, its tool, its technology and these.
+fn operation(
+    alloc: Global,
+    number: u32,
+    keyword: &[u8],
+    tool: u32,
+    behind: &[Field],
+) -> Result<Instance, Memory>
+    ensures { IfOk result (λ i. i ≡ simple number keyword.now (operation_params tool (map param_of behind.now))) }
 {
-    let mut params = vec![in alloc;
-        Param::Absent,
-        Param::Absent,
-        text(alloc, b"")?,
-        Param::Absent,
-        Param::Absent,
-        Param::Ref(tool),
-        Param::Ref(18),
-    ]?;
-    params.append(&mut behind)?;
-    Ok(params)
+    let front = [
+        Absent,
+        Absent,
+        Text(b""),
+        Absent,
+        Absent,
+        Ref(tool),
+        Ref(18),
+    ];
+    joined(alloc, number, keyword, &front, behind)
 }
 
 fn workingstep(alloc: Global, number: u32, feature: u32, operation: u32) -> Result<Instance, Memory>
     ensures { IfOk result (λ i. i ≡ workingstep number feature operation) }
 {
-    let params = vec![in alloc;
-        text(alloc, b"")?,
-        Param::Ref(6),
-        Param::Ref(feature),
-        Param::Ref(operation),
-        Param::Absent,
-    ]?;
-    instance(alloc, number, b"MACHINING_WORKINGSTEP", params)
+    let fields = [Text(b""), Ref(6), Ref(feature), Ref(operation), Absent];
+    instance(alloc, number, b"MACHINING_WORKINGSTEP", &fields)
 }

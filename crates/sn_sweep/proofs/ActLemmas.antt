@@ -21,32 +21,11 @@ use Rattle.sn_open.specs.Planes.{CellSet, AreAllowed}
 use Rattle.sn_open.specs.Verdict.{IsActCause, IsCauseAmong, rank, IsFirstCause}
 use Rattle.sn_open.specs.declared.verdict.Cause.{Cause}
 use Rattle.sn_open.specs.declared.verdict.Cause.TheVariants.{WrongMark, Early, OtherTool, OtherFeed, OtherSpeed, Gouge, Deep, Crash}
+use Rattle.sn_open.proofs.PassLemmas.{marks_append, passes_append}
 use Rattle.sn_sweep.specs.Checking.{Checking}
 use Rattle.sn_sweep.specs.Judging.{KeepsActs, KeepsMachine, DoesActs, JudgesActs}
 
 -- Acts in a row.
-
-pub marks_append : (some others : List Act) → marks (some ++ others) ≡ marks some ++ marks others
-marks_append [] others = refl
-marks_append (Mark n ∷ acts) others = ap (λ (ms : List ℕ). n ∷ ms) (marks_append acts others)
-marks_append (PutTool k ∷ acts) others = marks_append acts others
-marks_append (Enter z ∷ acts) others = marks_append acts others
-marks_append (Locate p ∷ acts) others = marks_append acts others
-marks_append (Rapid from to tool ∷ acts) others = marks_append acts others
-marks_append (Feed from to feed speed tool ∷ acts) others = marks_append acts others
-marks_append (End ∷ acts) others = marks_append acts others
-
-pub passes_append : (steps : List StepJob) (some others : List Act) → passes steps (some ++ others) ≡ passes steps some ++ passes steps others
-passes_append steps [] others = refl
-passes_append steps (Mark n ∷ acts) others = passes_append steps acts others
-passes_append steps (PutTool k ∷ acts) others = passes_append steps acts others
-passes_append steps (Enter z ∷ acts) others = passes_append steps acts others
-passes_append steps (Locate p ∷ acts) others = passes_append steps acts others
-passes_append steps (Rapid from to tool ∷ acts) others = passes_append steps acts others
-passes_append steps (Feed from to feed speed tool ∷ acts) others =
-    ap (λ (ps : List Pass). pass_of (body_of steps tool) from to ++ ps) (passes_append steps acts others)
-    ∙ sym (append_assoc (pass_of (body_of steps tool) from to) (passes steps acts) (passes steps others))
-passes_append steps (End ∷ acts) others = passes_append steps acts others
 
 -- some acts with a count of marks
 pub some_marks : (n : ℕ) → (acts : List Act) × (length (marks acts) ≡ n)

@@ -23,6 +23,7 @@ use Rattle.sn_open.specs.Good.{marks, IsCurrent, IsLeft, IsJobTool, IsClear, Sta
 use Rattle.sn_open.specs.Verdict.{IsActCause, AreRight, NamesNext, IsMetForbidden, IsMetDeep, IsMetInRapid}
 use Rattle.sn_open.specs.declared.verdict.Cause.{Cause}
 use Rattle.sn_open.specs.declared.verdict.Cause.TheVariants.{WrongMark, LowEntry, Early, OtherTool, OtherFeed, OtherSpeed, Gouge, Deep, Crash}
+use Rattle.sn_open.proofs.PassLemmas.{marks_append}
 use Rattle.sn_sweep.proofs.CellSearch.{IsFrom, no_cell}
 use Rattle.sn_sweep.proofs.OutlineTests.{allowed_is_sure}
 
@@ -43,16 +44,6 @@ integers a b =
 
 abbrev numbers : Job → List ℕ
 numbers job = map (λ (step : StepJob). step.ws) job.steps
-
-marks_joined : (some others : List Act) → marks (some ++ others) ≡ marks some ++ marks others
-marks_joined [] others = refl
-marks_joined (Mark n ∷ acts) others = ap (λ l. n ∷ l) (marks_joined acts others)
-marks_joined (PutTool k ∷ acts) others = marks_joined acts others
-marks_joined (Enter z ∷ acts) others = marks_joined acts others
-marks_joined (Locate p ∷ acts) others = marks_joined acts others
-marks_joined (Rapid a b tool ∷ acts) others = marks_joined acts others
-marks_joined (Feed a b feed speed tool ∷ acts) others = marks_joined acts others
-marks_joined (End ∷ acts) others = marks_joined acts others
 
 same_step : (s t : StepJob) → Some s ≡ Some t → s ≡ t
 same_step s t e = cc
@@ -93,8 +84,8 @@ one_more job pre (Mark n) none (tail, is) =
     let next = next_number job pre n (λ other. none WrongMark (refl, other)) in
     let at = subst (λ (l : List ℕ). slice_get l (length (marks pre)) ≡ Some n) is next in
     let (behind, tail_is) = begins_with (marks pre) tail n at in
-    (behind, is ∙ ap (λ l. marks pre ++ l) tail_is ∙ sym (append_assoc (marks pre) (n ∷ []) behind) ∙ ap (λ l. l ++ behind) (sym (marks_joined pre (Mark n ∷ []))))
-one_more job pre act none (tail, is) = (tail, is ∙ ap (λ l. l ++ tail) (sym (append-nil (marks pre)) ∙ sym (marks_joined pre (act ∷ []))))
+    (behind, is ∙ ap (λ l. marks pre ++ l) tail_is ∙ sym (append_assoc (marks pre) (n ∷ []) behind) ∙ ap (λ l. l ++ behind) (sym (marks_append pre (Mark n ∷ []))))
+one_more job pre act none (tail, is) = (tail, is ∙ ap (λ l. l ++ tail) (sym (append-nil (marks pre)) ∙ sym (marks_append pre (act ∷ []))))
 
 -- none of the acts has a cause after those before them
 abbrev HaveNoCause : Job → List Act → List Act → Type 0
@@ -215,7 +206,7 @@ no_cause job acts right front act back is cause h = right cause (record { front 
 
 in_front : (acts front back : List Act) (act : Act) → acts ≡ front ++ act ∷ back → length (marks front) ≤ length (marks acts)
 in_front acts front back act is =
-    let all = ap length (ap marks is ∙ marks_joined front (act ∷ back)) in
+    let all = ap length (ap marks is ∙ marks_append front (act ∷ back)) in
     omega (arith, length-append (marks front) (marks (act ∷ back)))
 
 pub good_acts : (job : Job) (i j z : ℤ) (acts : List Act) → HasRawEnds job i j z → AreRight job acts → Contains acts End → length (marks acts) ≡ length job.steps

@@ -5,14 +5,14 @@ ghost use Rattle.sn_gwrite.specs.Kept.{IsStraight};
 use crate::fixtures::pt3;
 use sn_geom::Pt3;
 use sn_gwrite::{
-    Emitter, forms_are_read, forms_text_is_lines, length_text_shows_length, parts_are_forms,
+    END, Emitter, forms_are_read, forms_text_is_lines, length_text_shows_length, parts_are_forms,
     text_shows_one_length,
 };
 use sn_io::{Failed, Sink, WriteFault};
 use std::alloc::Global;
 use std::test::Fail;
 
-/// One hole.
+/// One hole, before the end of its program.
 const HOLE: &str = "%
 G21 G90 G17 G94 G40 G61
 (T1 #17)
@@ -26,11 +26,9 @@ G0 X10.000 Y10.000
 G0 Z11.000
 G1 Z4.000
 G0 Z20.000
-M2
-%
 ";
 
-/// A cut in the plane, for no tool that is listed.
+/// A cut in the plane, for no tool that is listed, before the end of its program.
 const CUT: &str = "%
 G21 G90 G17 G94 G40 G61
 (WS #4294967295)
@@ -41,8 +39,6 @@ F1
 G0 Z20.000
 G0 X-0.005 Y15.000
 G1 X40.000 Y-2000.000
-M2
-%
 ";
 
 /// A program up to the height of its entry.
@@ -91,6 +87,13 @@ impl Sink for Tape {
     }
 }
 
+/// The text with the end of a program behind it.
+fn with_end(alloc: Global, text: &str) -> Result<Vec<u8>, Fail> {
+    let mut program = Vec::from_slice(alloc, text.as_bytes())?;
+    program.extend_from_slice(END.as_bytes())?;
+    Ok(program)
+}
+
 fn write_hole<S: Sink>(sink: &mut S, high: &Pt3, low: &Pt3, floor: &Pt3) -> Result<(), WriteFault>
     requires down { IsStraight high.now low.now }
     requires plunge { IsStraight low.now floor.now }
@@ -136,12 +139,14 @@ fn writes_a_hole(rt: HostRuntime) -> Result<(), Fail> {
     let high = pt3(10_000, 10_000, 20_000)?;
     let low = pt3(10_000, 10_000, 11_000)?;
     let floor = pt3(10_000, 10_000, 4_000)?;
-    for (most, failing, taken) in [(256, 0, 136), (1, 0, 136), (256, 3, 35), (1, 100, 99)] {
+    let hole = with_end(rt.alloc(), HOLE)?;
+    let all = hole.len();
+    for (most, failing, taken) in [(256, 0, all), (1, 0, all), (256, 3, 35), (1, 100, 99)] {
         let mut tape = Tape::new(rt.alloc(), most, failing);
         let written = write_hole(&mut tape, &high, &low, &floor);
         assert_eq!(rt; written.is_ok(), failing == 0);
         assert_eq!(rt; tape.bytes.len(), taken);
-        assert!(rt; HOLE.as_bytes().starts_with(tape.bytes.as_slice()));
+        assert!(rt; hole.as_slice().starts_with(tape.bytes.as_slice()));
     }
     Ok(())
 }
@@ -152,7 +157,8 @@ fn writes_a_cut(rt: HostRuntime) -> Result<(), Fail> {
     let to = pt3(40_000, -2_000_000, 20_000)?;
     let mut tape = Tape::new(rt.alloc(), 256, 0);
     write_cut(&mut tape, &from, &to)?;
-    assert_eq!(rt; tape.bytes.as_slice(), CUT.as_bytes());
+    let cut = with_end(rt.alloc(), CUT)?;
+    assert_eq!(rt; tape.bytes.as_slice(), cut.as_slice());
     Ok(())
 }
 

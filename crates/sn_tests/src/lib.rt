@@ -40,6 +40,8 @@ mod outline;
 #[cfg(test)]
 mod p21;
 #[cfg(test)]
+mod raster;
+#[cfg(test)]
 mod refs;
 #[cfg(test)]
 mod report;

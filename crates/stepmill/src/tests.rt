@@ -2,6 +2,7 @@
 
 use crate::{Status, run};
 use sn_io::{MemFiles, MemSink};
+use sn_program::END;
 use sn_words::Words;
 use std::test::Fail;
 
@@ -45,7 +46,7 @@ END-ISO-10303-21;
 /// The command over the sample part, at a pitch of one millimetre.
 const COMPILE: &str = "compile one.stp --cell 1000";
 
-/// The program of the sample part at a pitch of one millimetre.
+/// The program of the sample part at a pitch of one millimetre, before its end.
 const PROGRAM: &str = "%
 G21 G90 G17 G94 G40 G61
 (T1 #17)
@@ -59,8 +60,6 @@ G0 X10.000 Y10.000
 G0 Z11.000
 G1 Z4.000
 G0 Z20.000
-M2
-%
 ";
 
 /// Two more workingsteps for the sample part: one that drills its hole again, and one that drills another hole with another
@@ -78,7 +77,7 @@ const MORE_STEPS: &str = "#30=MACHINING_WORKINGSTEP('',#7,#31,#32,$);
 ENDSEC;
 END";
 
-/// The program of the part with these steps: nothing is left for the second one.
+/// The program of the part with these steps, before its end: nothing is left for the second one.
 const THREE_STEPS: &str = "%
 G21 G90 G17 G94 G40 G61
 (T1 #17)
@@ -104,8 +103,6 @@ G0 X4.000 Y16.000
 G0 Z11.000
 G1 Z4.000
 G0 Z20.000
-M2
-%
 ";
 
 /// The command over the sample part and a program, at this pitch.
@@ -190,25 +187,27 @@ fn compiles_to(
     is_end(&end, status, out, err)
 }
 
-/// The verdict on the sample's program, a piece of which is replaced by another.
-fn is_judged(
-    rt: &HostRuntime,
-    piece: &str,
-    other: &str,
-    status: Status,
-    out: &str,
-) -> Result<(), Fail> {
-    let program = PROGRAM.replace(rt.alloc(), piece, other)?;
-    let end = end_of(rt, VERIFY, SAMPLE, program.as_str(), None, None)?;
+/// The text with the end of a program behind it.
+fn with_end(rt: &HostRuntime, text: &str) -> Result<String, Fail> {
+    let mut program = String::from_str(rt.alloc(), text)?;
+    program.push_str(END)?;
+    Ok(program)
+}
+
+/// The verdict on a program for the sample part.
+fn is_judged(rt: &HostRuntime, program: &str, status: Status, out: &str) -> Result<(), Fail> {
+    let end = end_of(rt, VERIFY, SAMPLE, program, None, None)?;
     is_end(&end, status, out, "")
 }
 
 #[test]
 fn parts_are_compiled(rt: HostRuntime) -> Result<(), Fail> {
-    compiles_to(&rt, SAMPLE, Status::Done, PROGRAM, "")?;
+    let program = with_end(&rt, PROGRAM)?;
+    compiles_to(&rt, SAMPLE, Status::Done, program.as_str(), "")?;
     let longer = SAMPLE.replace(rt.alloc(), "(#4)", "(#4,#39,#30)")?;
     let steps = longer.replace(rt.alloc(), "ENDSEC;\nEND", MORE_STEPS)?;
-    compiles_to(&rt, steps.as_str(), Status::Done, THREE_STEPS, "")
+    let program = with_end(&rt, THREE_STEPS)?;
+    compiles_to(&rt, steps.as_str(), Status::Done, program.as_str(), "")
 }
 
 #[test]
@@ -220,6 +219,7 @@ fn parts_are_refused(rt: HostRuntime) -> Result<(), Fail> {
 
 #[test]
 fn programs_are_judged(rt: HostRuntime) -> Result<(), Fail> {
+    let program = with_end(&rt, PROGRAM)?;
     for (piece, other, out) in [
         (
             "G1 Z4.000",
@@ -231,30 +231,32 @@ fn programs_are_judged(rt: HostRuntime) -> Result<(), Fail> {
             "",
             "no: #8 uncovered at i 10 j 9 z 4000\n",
         ),
-        ("M2\n", "", "no: no end\n"),
+        (END, "%\n", "no: no end\n"),
         (
             "F300\nG0 Z20.000",
             "F300\nG0 X10.000",
             "no: line 9: lost axis\n",
         ),
-        (PROGRAM, "", "no: no end\n"),
+        (program.as_str(), "", "no: no end\n"),
     ] {
-        is_judged(&rt, piece, other, Status::No, out)?;
+        let changed = program.replace(rt.alloc(), piece, other)?;
+        is_judged(&rt, changed.as_str(), Status::No, out)?;
     }
-    is_judged(&rt, PROGRAM, PROGRAM, Status::Done, "yes\n")
+    is_judged(&rt, program.as_str(), Status::Done, "yes\n")
 }
 
 #[test]
 fn unreachable_parts_are_judged(rt: HostRuntime) -> Result<(), Fail> {
     let thin = SAMPLE.replace(rt.alloc(), "DIMENSION(8.", "DIMENSION(1.")?;
-    let end = end_of(&rt, VERIFY, thin.as_str(), PROGRAM, None, None)?;
+    let program = with_end(&rt, PROGRAM)?;
+    let end = end_of(&rt, VERIFY, thin.as_str(), program.as_str(), None, None)?;
     is_end(
         &end,
         Status::No,
         "no: #8 uncovered at i 10 j 9 z 4000\n",
         "",
     )?;
-    let short = end_of(&rt, "verify one.stp", SAMPLE, PROGRAM, None, None)?;
+    let short = end_of(&rt, "verify one.stp", SAMPLE, program.as_str(), None, None)?;
     is_end(&short, Status::BadWords, "", "stepmill: word 3\n")
 }
 
@@ -275,12 +277,13 @@ fn parts_are_generated(rt: HostRuntime) -> Result<(), Fail> {
 
 #[test]
 fn faults_of_files_end_it(rt: HostRuntime) -> Result<(), Fail> {
+    let program = with_end(&rt, PROGRAM)?;
     for call in 1..=CALLS {
         let end = end_of(&rt, COMPILE, SAMPLE, "", Some(call), None)?;
         is_end(&end, Status::ReadFault, "", "stepmill: read fault\n")?;
     }
     for call in 1..=2 * CALLS {
-        let end = end_of(&rt, VERIFY, SAMPLE, PROGRAM, Some(call), None)?;
+        let end = end_of(&rt, VERIFY, SAMPLE, program.as_str(), Some(call), None)?;
         is_end(&end, Status::ReadFault, "", "stepmill: read fault\n")?;
     }
     Ok(())
@@ -288,14 +291,15 @@ fn faults_of_files_end_it(rt: HostRuntime) -> Result<(), Fail> {
 
 #[test]
 fn faults_of_outputs_end_it(rt: HostRuntime) -> Result<(), Fail> {
+    let program = with_end(&rt, PROGRAM)?;
     for call in 1..=WRITES {
         let end = end_of(&rt, COMPILE, SAMPLE, "", None, Some(call))?;
         assert_eq!(rt; end.status, Status::WriteFault);
-        assert!(rt; PROGRAM.as_bytes().starts_with(end.out.as_slice()));
+        assert!(rt; program.as_bytes().starts_with(end.out.as_slice()));
         assert_eq!(rt; end.err.as_slice(), b"".as_slice());
     }
     let end = end_of(&rt, COMPILE, SAMPLE, "", None, Some(WRITES + 1))?;
-    is_end(&end, Status::Done, PROGRAM, "")?;
-    let end = end_of(&rt, VERIFY, SAMPLE, PROGRAM, None, Some(1))?;
+    is_end(&end, Status::Done, program.as_str(), "")?;
+    let end = end_of(&rt, VERIFY, SAMPLE, program.as_str(), None, Some(1))?;
     is_end(&end, Status::WriteFault, "", "")
 }

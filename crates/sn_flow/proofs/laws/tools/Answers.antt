@@ -1,5 +1,4 @@
-use Rattle.std.proofs.Common.{sym}
-use Rattle.sn_flow.proofs.ToolLemmas.{has, has-first_uses, first_uses-push, numbers_filled, numbers_differ}
+use Rattle.sn_flow.proofs.ToolLemmas.{has-first_uses, first_uses-push, numbers_filled, numbers_differ}
 use Rattle.sn_flow.proofs.laws.tools.Goals as goal
 
 pub returns-clause-grow : goal.returns-clause-grow

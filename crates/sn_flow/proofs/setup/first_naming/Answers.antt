@@ -1,4 +1,4 @@
-use Rattle.std.proofs.Common.{ℕ, Bool, ◌≡◌, sym, ◌∙◌, nat_eq, get_or, arith}
+use Rattle.std.proofs.Common.{ℕ, Bool, sym, ◌∙◌, nat_eq, get_or, arith}
 use Rattle.std.proofs.lemmas.List.Elements.{Contains-get_or}
 use Rattle.sn_feature.specs.Entities.{named}
 use Rattle.sn_flow.proofs.FindLemmas.{find_here, find_more}

@@ -1,4 +1,4 @@
-use Rattle.std.proofs.Common.{ℕ, ◌∙◌, subst, sym}
+use Rattle.std.proofs.Common.{ℕ, ◌∙◌}
 use Rattle.sn_entity.specs.declared.row.Group.TheVariants.{One as OneRow}
 use Rattle.sn_entity.specs.declared.row.RowId.TheVariants.{Project, Workpiece}
 use Rattle.sn_refs.specs.Target.{IsTarget}

@@ -1,7 +1,7 @@
-use Rattle.std.proofs.Common.{◌≡◌, ◌∷◌, [], ◌++◌, ◌<◌, List, length, map, get_or, refl, sym, ap, subst, ◌∙◌, append_assoc, append-nil, arith}
+use Rattle.std.proofs.Common.{◌≡◌, ◌∷◌, [], ◌++◌, List, length, map, get_or, sym, ap, subst, ◌∙◌, append_assoc, append-nil, arith}
 use Rattle.std.specs.Vec.Iter.{into_iter_items}
 use Rattle.sn_feature.specs.declared.parts.StepParts.{StepParts}
-use Rattle.sn_flow.specs.Steps.{corner_among, step_among}
+use Rattle.sn_flow.specs.Steps.{step_among}
 use Rattle.sn_flow.proofs.StepsLemmas.{corner_at, made_more, count_more, step_made, nothing_left}
 use Rattle.sn_flow.proofs.steps.with_corners.Goals as goal
 

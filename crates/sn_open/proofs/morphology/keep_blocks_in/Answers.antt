@@ -1,17 +1,21 @@
-use Rattle.std.proofs.Common.{ap, subst, ◌∙◌}
-use Rattle.sn_open.specs.Window.{rows}
-use Rattle.sn_open.specs.Morphology.{AreBlockWidths}
-use Rattle.sn_open.proofs.WidthLemmas.{block_half_widths}
-use Rattle.sn_open.proofs.MorphologyLemmas.{kept_blocks}
+use Rattle.std.proofs.Common.{refl, ◌∙◌}
+use Rattle.sn_raster.specs.Neighbours.{IsBesideInRow, IsBesideInColumn}
+use Rattle.sn_open.proofs.BlockLemmas.{kept_at, kept_blocks}
 use Rattle.sn_open.proofs.morphology.keep_blocks_in.Goals as goal
-
-pub spread-requires-clause-widths : goal.spread-requires-clause-widths
-spread-requires-clause-widths c =
-    let rows_is = c.rows_of.ensures.value ∙ ap rows c.grid-g.ensures in
-    block_half_widths _ _ (subst (λ n. AreBlockWidths n c.set_block_widths.new.widths) rows_is c.set_block_widths.ensures)
 
 pub returns-clause-nodes : goal.returns-clause-nodes
 returns-clause-nodes c =
-    let rows_is = c.rows_of.ensures.value ∙ ap rows c.grid-g.ensures in
-    let are = subst (λ n. AreBlockWidths n c.set_block_widths.new.widths) rows_is c.set_block_widths.ensures in
-    kept_blocks c.args.from.now c.spread.new.to c.invert.new.self c.set_block_widths.new.widths are c.spread.ensures.grid c.spread.ensures.nodes c.invert.ensures.nodes
+    let from = c.args.from.now in
+    let g = from.grid in
+    let a = c.keep_beside_in_rows in
+    let b = c.keep_beside_in_rows-2 in
+    let d = c.keep_beside_in_columns in
+    let e = c.keep_beside_in_columns-2 in
+    let first = a.ensures.grid ∙ c.requires.spare in
+    let second = b.ensures.grid ∙ c.requires.grid in
+    let third = d.ensures.grid ∙ first in
+    kept_blocks from a.new.self b.new.self d.new.self e.new.self
+    (kept_at IsBesideInRow g c.args.spare.now from a.new.self c.requires.spare refl a.ensures.nodes)
+    (kept_at IsBesideInRow g c.args.to.now a.new.self b.new.self c.requires.grid first b.ensures.nodes)
+    (kept_at IsBesideInColumn g a.new.self b.new.self d.new.self first second d.ensures.nodes)
+    (kept_at IsBesideInColumn g b.new.self d.new.self e.new.self second third e.ensures.nodes)

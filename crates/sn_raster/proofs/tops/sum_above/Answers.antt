@@ -1,15 +1,16 @@
-use Rattle.std.proofs.Common.{◌≡◌, ◌≤◌, ℕ, ℤ, pos, ◌-ℤ◌, ◌∙◌, unsigned_abs, ap, arith, get_or, length, subst}
+use Rattle.std.proofs.Common.{◌≡◌, ◌*◌, ◌≤◌, ℕ, ℤ, pos, ◌-ℤ◌, ◌∙◌, unsigned_abs, ap, arith, get_or, length, subst}
 use Rattle.std.proofs.lemmas.Int.{ints}
 use Rattle.std.proofs.lemmas.List.{take_all}
 use Rattle.std.proofs.lemmas.List.Sums.{sum_by_more}
 use Rattle.std.proofs.lemmas.List.Elements.{All-get_or}
 use Rattle.std.specs.List.{sum_by}
 use Rattle.sn_geom.specs.Length.{IsLength}
+use Rattle.sn_geom.specs.declared.limits.TheConstants.{REACH}
 use Rattle.sn_raster.proofs.Axis.{kept, kept_as}
 use Rattle.sn_raster.proofs.tops.sum_above.Goals as goal
 
 -- what a height is above the bottom, computed
-step_value : (h h' b b' : ℤ) (n : ℕ) → h' ≡ h → b' ≡ b → n ≡ unsigned_abs (h' -ℤ b') → IsLength h → IsLength b → (n ≡ unsigned_abs (h -ℤ b)) × (n ≤ 4000000)
+step_value : (h h' b b' : ℤ) (n : ℕ) → h' ≡ h → b' ≡ b → n ≡ unsigned_abs (h' -ℤ b') → IsLength h → IsLength b → (n ≡ unsigned_abs (h -ℤ b)) × (n ≤ 2 * REACH)
 step_value h h' b b' n e f is length length' = (rw (← e, ← f) is, omega (arith, ints, length, length'))
 
 pub loop-height-preserved : goal.loop-height-preserved
