@@ -1,6 +1,6 @@
 #!/usr/bin/env bash
 # Cuts and fills with the crate sn_raster: compares heights after paths with the cases of a file, where one is given, and
-# tells how fast rows are filled and passes are cut, and what planes and heights take. No program calls this crate yet, so
+# tells how fast rows are filled and passes are cut, and what planes and heights take. No program shows what this crate gives, so
 # a small one is made in a scratch repository beside a copy of the crates. It is not part of the gate.
 # Usage: tools/raster_check.sh [CASES]
 cases=${1:+$(realpath "$1")}
