@@ -1,10 +1,10 @@
 //! The unit of length, and the limits that follow from it.
 
-/// Length units in a millimetre: the unit of length is the micrometre.
-pub const PER_MM: u32 = 1_000;
+/// Length units in a millimetre: the unit of length is a tenth of a micrometre.
+pub const PER_MM: u32 = 10_000;
 
 /// The greatest size of a coordinate or a length, in units of length.
-pub const REACH: u32 = 2_000_000;
+pub const REACH: u32 = 20_000_000;
 
 /// The least and the greatest pitch of a grid: 20 and 2,000 micrometres, in units of length.
 pub const LEAST_PITCH: u32 = 20 * PER_MM / 1_000;
@@ -35,22 +35,22 @@ pub const SPEED_SCALE: u32 = 60;
 pub const MOST_TOOL: u32 = 99_999;
 
 /// The height above remaining material at which an approach changes from rapid to feed.
-pub const GAP: u32 = 1_000;
+pub const GAP: u32 = 10_000;
 
 /// The axial depth of a layer where the part gives none: no cut is so deep.
-pub const NO_DEPTH: u32 = 4_000_000;
+pub const NO_DEPTH: u32 = 40_000_000;
 
 /// The decimals of a length in millimetres, as it is printed: one for each digit of `PER_MM` after the first.
-pub const DECIMALS: usize = 3;
+pub const DECIMALS: usize = 4;
 
 // The values of today: a change of the unit of length changes these.
-const _: () = prove!(PER_MM == 1_000 && REACH == 2_000_000 && GAP == 1_000);
+const _: () = prove!(PER_MM == 10_000 && REACH == 20_000_000 && GAP == 10_000);
 
-const _: () = prove!(NO_DEPTH == 4_000_000 && DECIMALS == 3);
+const _: () = prove!(NO_DEPTH == 40_000_000 && DECIMALS == 4);
 
-const _: () = prove!(LEAST_PITCH == 20 && MOST_PITCH == 2_000);
+const _: () = prove!(LEAST_PITCH == 200 && MOST_PITCH == 20_000);
 
-const _: () = prove!(LEAST_DIAMETER == 10 && MOST_DIAMETER == 200_000 && MOST_EDGE == 100_000);
+const _: () = prove!(LEAST_DIAMETER == 100 && MOST_DIAMETER == 2_000_000 && MOST_EDGE == 1_000_000);
 
 const _: () = prove!(MOST_NODES == 4_000_000 && MOST_RATE == 100_000 && MOST_TOOL == 99_999);
 
