@@ -1,5 +1,5 @@
 -- Lines worked by hand: what the machine does on them, and which fault comes first (after RS274/NGC version 3, NISTIR
--- 6556, in this project's profile). Lengths are micrometres.
+-- 6556, in this project's profile). Lengths are tenths of a micrometre.
 use Rattle.std.specs.Prelude.{◌≡◌, ℕ, ℤ, pos, true, false, List, [], ◌∷◌, Some, None}
 use Rattle.sn_geom.specs.declared.units.Pt3.{Pt3}
 use Rattle.sn_geom.specs.declared.machine.Word.{Word}

@@ -44,6 +44,8 @@ pub const MOST_LINE: usize = 256;
 /// The most words that a `LineWords` holds. The modal groups and the letters allow fewer.
 pub const MOST_WORDS: usize = 64;
 
+const _: () = prove!(MOST_LINE == 256 && MOST_WORDS == 64);
+
 /// The words of a line, at most 64 of them, in their order.
 #[derive(Drop)]
 pub struct LineWords {

@@ -164,7 +164,7 @@ impl Dec {
         }
     }
 
-    /// The length of this many millimetres, rounded to micrometres as by [`Dec::scaled`].
+    /// The length of this many millimetres, rounded to tenths of a micrometre as by [`Dec::scaled`].
     ///
     /// `OutOfRange` where that is above `REACH` in size.
     pub fn to_um(&self) -> Result<Um, DecFault>

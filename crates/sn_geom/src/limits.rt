@@ -31,6 +31,12 @@ pub const FEED_SCALE: u32 = 60_000;
 /// A speed of one revolution per second in rev/min.
 pub const SPEED_SCALE: u32 = 60;
 
+/// Parts of one in which the values of variables and constants and the ratios of directions are kept: they are thousandths.
+pub const PER_ONE: u32 = 1_000;
+
+/// The greatest size of the value of a variable or a constant, in thousandths.
+pub const MOST_VALUE: u32 = 2_000_000_000;
+
 /// The greatest number of a tool, of a length offset and of a line in a program.
 pub const MOST_TOOL: u32 = 99_999;
 
@@ -55,3 +61,5 @@ const _: () = prove!(LEAST_DIAMETER == 100 && MOST_DIAMETER == 2_000_000 && MOST
 const _: () = prove!(MOST_NODES == 4_000_000 && MOST_RATE == 100_000 && MOST_TOOL == 99_999);
 
 const _: () = prove!(FEED_SCALE == 60_000 && SPEED_SCALE == 60);
+
+const _: () = prove!(PER_ONE == 1_000 && MOST_VALUE == 2_000_000_000);

@@ -7,7 +7,7 @@ use crate::limits::REACH;
 use crate::units::{Pt, Um};
 use std::marker::Model;
 
-/// The difference of two coordinates, in micrometres.
+/// The difference of two coordinates, in tenths of a micrometre.
 #[derive(Clone, Copy)]
 pub struct Difference(i64);
 

@@ -9,7 +9,7 @@ use crate::units::{Pt, Pt3, Seg, Um};
 
 /// Whether the distance from `p` to `s`, doubled, is at most `d`.
 ///
-/// All are lengths in micrometres.
+/// All are lengths in tenths of a micrometre.
 pub fn near(d: u32, s: &Seg, p: &Pt) -> bool
     requires { d ≤ REACH }
     ensures { IsTrue result ↔ Near d s.now.a s.now.b p.now }
@@ -28,7 +28,7 @@ pub fn near(d: u32, s: &Seg, p: &Pt) -> bool
 
 /// Whether a tool of diameter `d`, its tip moving from `a` to `b`, touches the cell at the place and the height of `p`.
 ///
-/// A cell at the height z is the slab from z to z + 1 at its place. All are lengths in micrometres.
+/// A cell at the height z is the slab from z to z + 1 at its place. All are lengths in tenths of a micrometre.
 pub fn touches(d: u32, a: &Pt3, b: &Pt3, p: &Pt3) -> bool
     requires diameter { d ≤ REACH }
     requires not_slanted { IsHorizontalOrVertical a.now b.now }
@@ -84,7 +84,7 @@ fn product_of_squares(d: u32, length_squared: u64) -> u128
 
 /// The greatest half width of the disc of diameter `d`, on whole numbers, in the row at the distance `dy` from its centre.
 ///
-/// All are lengths in micrometres.
+/// All are lengths in tenths of a micrometre.
 pub fn half_width(d: u32, dy: u32) -> Option<u32>
     requires diameter { d ≤ 2 * REACH }
     requires distance { dy ≤ 2 * REACH }

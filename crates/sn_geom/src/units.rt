@@ -22,7 +22,7 @@ impl<T: Drop> From<AllocFailed<T>> for Memory {
     }
 }
 
-/// A coordinate or a length in micrometres, at most `REACH` in size.
+/// A coordinate or a length in tenths of a micrometre, at most `REACH` in size.
 #[derive(Clone, Copy, Debug, PartialEq, Eq)]
 pub struct Um(i32);
 
@@ -37,7 +37,7 @@ impl Model for Um {
 }
 
 impl Um {
-    /// The length of `v` micrometres, where that is in the range.
+    /// The length of `v` tenths of a micrometre, where that is in the range.
     pub fn new(v: i32) -> Option<Um>
         ensures { SomeIff result (IsLength v) v }
     {
@@ -56,7 +56,7 @@ impl Um {
         Um(v)
     }
 
-    /// The length in micrometres.
+    /// The length in tenths of a micrometre.
     pub fn get(self) -> i32
         ensures value { result ≡ self }
         ensures range { IsLength self }
@@ -87,7 +87,7 @@ pub struct Seg {
     pub b: Pt,
 }
 
-/// The body of a tool: its diameter and, from the tip up, the length of its point, in micrometres.
+/// The body of a tool: its diameter and, from the tip up, the length of its point, in tenths of a micrometre.
 ///
 /// From the height of the point length up, the tool cuts with its whole diameter.
 #[derive(Clone, Copy, Debug, PartialEq, Eq)]
