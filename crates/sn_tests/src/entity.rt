@@ -286,3 +286,140 @@ fn gives_texts_and_references(rt: HostRuntime) -> Result<(), Fail> {
     assert_eq!(rt; plane.one(0), Some(7));
     Ok(())
 }
+
+/// What stands before and behind a number in an instance, the place of its parameter, the place of its value among those
+/// that are shown, and numbers with their values: the least and the greatest that may stand there, and one past each.
+const BORDERS: [(&str, &str, u32, usize, [(&str, Option<i32>); 4]); 9] = [
+    (
+        "TOLERANCED_LENGTH_MEASURE(",
+        ");",
+        1,
+        0,
+        [
+            ("0.", Some(0)),
+            ("2000.", Some(20_000_000)),
+            ("-0.0001", None),
+            ("2000.0001", None),
+        ],
+    ),
+    (
+        "BLOCK('',#1,",
+        ",1.,1.);",
+        3,
+        1,
+        [
+            ("0.0001", Some(1)),
+            ("2000.", Some(20_000_000)),
+            ("0.", None),
+            ("2000.0001", None),
+        ],
+    ),
+    (
+        "MILLING_TOOL_DIMENSION(",
+        ",$,$,$,$);",
+        1,
+        0,
+        [
+            ("0.01", Some(100)),
+            ("200.", Some(2_000_000)),
+            ("0.0099", None),
+            ("200.0001", None),
+        ],
+    ),
+    (
+        "MILLING_TOOL_DIMENSION(1.,$,$,$,",
+        ");",
+        5,
+        1,
+        [
+            ("0.", Some(0)),
+            ("100.", Some(1_000_000)),
+            ("-0.0001", None),
+            ("100.0001", None),
+        ],
+    ),
+    (
+        "MILLING_TECHNOLOGY(",
+        ",$,$,1.);",
+        1,
+        0,
+        [
+            ("0.00001667", Some(1)),
+            ("1.66666667", Some(100_000)),
+            ("0.", None),
+            ("1.66669", None),
+        ],
+    ),
+    (
+        "MILLING_TECHNOLOGY(1.,$,$,",
+        ");",
+        4,
+        1,
+        [
+            ("-0.0167", Some(1)),
+            ("-1666.667", Some(100_000)),
+            ("0.", None),
+            ("1666.68", None),
+        ],
+    ),
+    (
+        "NC_CONSTANT('',",
+        ");",
+        2,
+        0,
+        [
+            ("-2000000.", Some(-2_000_000_000)),
+            ("2000000.", Some(2_000_000_000)),
+            ("-2000000.001", None),
+            ("2000000.001", None),
+        ],
+    ),
+    (
+        "CARTESIAN_POINT('',(",
+        ",0.));",
+        2,
+        0,
+        [
+            ("-2000.", Some(-20_000_000)),
+            ("2000.", Some(20_000_000)),
+            ("-2000.0001", None),
+            ("2000.0001", None),
+        ],
+    ),
+    (
+        "DIRECTION('',(",
+        ",0.,1.));",
+        2,
+        0,
+        [
+            ("-2000.", Some(-2_000_000)),
+            ("2000.", Some(2_000_000)),
+            ("-2000.001", None),
+            ("2000.001", None),
+        ],
+    ),
+];
+
+/// The number at a place, or the first coordinate of the point or the direction there.
+fn number_at(found: &Fields, k: usize) -> Option<i32> {
+    if let Some(triple) = found.triple(k) {
+        return Some(triple.x);
+    }
+    found.num(k)
+}
+
+#[test]
+fn numbers_end_at_their_borders(rt: HostRuntime) -> Result<(), Fail> {
+    for (front, back, place, k, numbers) in BORDERS {
+        for (number, wanted) in numbers {
+            let text = format!(in rt.alloc(); "#5={front}{number}{back}")?;
+            match shown(rt.alloc(), &text)? {
+                Ok(found) => assert_eq!(rt; number_at(&found, k), wanted, "{text}"),
+                Err(fault) => {
+                    assert_eq!(rt; (wanted, fault), (None, EntFault::Range(5, place)), "{text}")
+                }
+            }
+        }
+    }
+    Ok(())
+}

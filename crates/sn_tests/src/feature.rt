@@ -6,7 +6,7 @@ use crate::fixtures::{Change, changed_text, checked_of};
 use sn_entity::{Group, RowId};
 use sn_feature::{StepFault, StepParts, plane_height, read_placement, security_of, step};
 use sn_frame::{Frame, FrameFault};
-use sn_geom::{Body, Pt};
+use sn_geom::{Body, PER_MM, Pt};
 use sn_model::project_has_row;
 use sn_outline::{Bottom, Shape, Way};
 use sn_refs::Checked;
@@ -502,5 +502,52 @@ fn parts(rt: HostRuntime) -> Result<(), Fail> {
     assert_eq!(rt; plane_height(&c, plane).get(), 20_000);
     let placement = c.one(plane, 0);
     assert!(rt; read_placement(&c, placement).is_ok());
+    Ok(())
+}
+
+/// The part with these changes, where a polyline lists so many points in place of the word POINTS.
+fn part_of_points(alloc: Global, changes: &[Change], count: usize) -> Result<Checked, Fail> {
+    let text = changed_text(alloc, &INSTANCES, changes)?;
+    let (front, back) = text.as_str().split_once("POINTS").ok_or("no points")?;
+    let mut points = String::new(alloc);
+    for place in 1..count {
+        points.push_str(if place % 2 == 0 { "#60," } else { "#61," })?;
+    }
+    let text = format!(in alloc; "{front}{points}#62{back}")?;
+    checked_of(alloc, text.as_bytes())
+}
+
+#[test]
+fn polylines_of_many_points(rt: HostRuntime) -> Result<(), Fail> {
+    const POINTS: Change = (57, "POLYLINE('',(POINTS))");
+    let rows: [(&[Change], u32); 2] = [
+        (
+            &[
+                SLOT,
+                (52, "SLOT('',#3,(),#13,#14,#45,#44,())"),
+                POINTS,
+            ],
+            52,
+        ),
+        (
+            &[
+                POCKET,
+                (54, "GENERAL_CLOSED_PROFILE($,#57)"),
+                POINTS,
+            ],
+            51,
+        ),
+    ];
+    for (changes, feature) in rows {
+        for (count, fault) in [
+            (1_000, None),
+            (1_001, Some(StepFault::BadOutline(feature))),
+        ] {
+            let c = part_of_points(rt.alloc(), changes, count)?;
+            let ws = first_workingstep(&c).ok_or("no workingstep")?;
+            let told = step(rt.alloc(), &c, &Frame::identity(), 10 * PER_MM as i32, ws);
+            assert_eq!(rt; told.err(), fault, "{count}");
+        }
+    }
     Ok(())
 }
