@@ -13,7 +13,7 @@ use Rattle.sn_program.specs.Text.{program_text}
 use Rattle.sn_link.specs.Examples.{boxed, drill, at}
 
 abbrev pub over_origin : ℤ → Pt3
-over_origin z = over (at (pos 1000) (neg_ℤ (pos 500))) z
+over_origin z = over (at (pos (mm 1)) (neg_ℤ (pos (tenths 5)))) z
 
 -- four steps, of which the first and the second have one tool, the third has no moves, and the fourth has another tool
 abbrev pub four_steps : List (StepJob × List Move)
