@@ -13,8 +13,8 @@ use Rattle.sn_clear.specs.Field.{Field, is_useful}
 use Rattle.sn_clear.specs.Runs.{places_on, is_useful_on, end_on, run_between, runs_before, runs_on}
 use Rattle.sn_clear.specs.Rows.{has_useful, row_number, useful_rows, is_selected, row_place, line_at, sweep, sweep_before}
 use Rattle.sn_clear.specs.Thrift.{IsMaximalRun, IsRunOn, Precedes, AreRunsOn, HasUseful, IsSelectedRow, joined, IsSweep}
-use Rattle.sn_clear.specs.StrokeLaws.{RowsAreMaximalRuns, MultiplesAndTheLastAreSelected, LastRowIsSelected}
-use Rattle.sn_clear.proofs.PlaceLemmas.{end_is, one_passes, which_passes, one_counted, none_counted}
+use Rattle.sn_clear.specs.StrokeLaws.{RowsAreMaximalRuns, MultiplesAndTheLastAreSelected, LastRowIsSelected, RowNumbersCountUsefulRows, RowPlacesCountSelectedRows, DirectionsAlternate}
+use Rattle.sn_clear.proofs.PlaceLemmas.{end_is, one_passes, which_passes, one_counted, none_counted, count_none}
 use Rattle.sn_clear.proofs.RunLemmas.{runs-none, runs-next}
 use Rattle.sn_clear.proofs.RowLemmas.{sweep-none, sweep-next}
 use Rattle.sn_clear.proofs.LieLemmas.{end_gives, begins_there, line_inside}
@@ -341,6 +341,31 @@ selected_is f every row below =
 
 pub last_row_is_selected : LastRowIsSelected
 last_row_is_selected f every row below some last = (selected_is f every row below).1 (record { inside = below; some = some; chosen = inr last })
+
+-- Numbers and places of rows.
+
+pub numbers_count : RowNumbersCountUsefulRows
+numbers_count f = (
+  count_none (has_useful f),
+  λ row some. sym (one_counted (has_useful f) row (row_number f row) ((useful_row f row).1 some) refl),
+  λ row none.
+      sym (none_counted (has_useful f) row (row_number f row) (false_from_ne_true (has_useful f row) (λ on. none ((useful_row f row).0 on))) refl),
+)
+
+pub places_count : RowPlacesCountSelectedRows
+places_count f every = (
+  count_none (is_selected f every),
+  λ row selected. sym (one_counted (is_selected f every) row (row_place f every row) ((selected_is f every row selected.inside).1 selected) refl),
+  λ row below other.
+      sym (none_counted (is_selected f every) row (row_place f every row)
+      (false_from_ne_true (is_selected f every row) (λ on. other ((selected_is f every row below).0 on))) refl),
+)
+
+pub directions_alternate : DirectionsAlternate
+directions_alternate row place = (
+  λ even. cond-true (nat_eq (place % 2) 0) (Rising row) (Falling row) (eq-eqb (place % 2) 0 even),
+  λ odd. cond-false (nat_eq (place % 2) 0) (Rising row) (Falling row) (false_from_ne_true (nat_eq (place % 2) 0) (λ on. odd (eqb-true (place % 2) 0 on))),
+)
 
 -- The sweep.
 

@@ -1,5 +1,5 @@
 -- Laws of the strokes of a step that clears its feature (this project's own).
-use Rattle.std.specs.Prelude.{◌≡◌, ◌↔◌, ℕ, ◌*◌, ◌<◌, ◌⊎◌, IsTrue, Bool, false, List, slice_index_or}
+use Rattle.std.specs.Prelude.{◌≡◌, ◌≢◌, ◌↔◌, ℕ, ◌+◌, ◌*◌, ◌%◌, ◌<◌, ◌⊎◌, IsTrue, Bool, false, List, slice_index_or}
 use Rattle.std.specs.List.{All}
 use Rattle.sn_raster.specs.Grid.{Grid, InDisc, Node, place}
 use Rattle.sn_raster.specs.Plane.{Plane, Has}
@@ -7,10 +7,11 @@ use Rattle.sn_outline.specs.JobRule.{IsPitch}
 use Rattle.sn_clear.specs.declared.spot.Spot.{Spot}
 use Rattle.sn_clear.specs.declared.spot.Run.{Run}
 use Rattle.sn_clear.specs.declared.spot.Line.{Line}
+use Rattle.sn_clear.specs.declared.spot.Line.TheVariants.{Rising, Falling}
 use Rattle.sn_clear.specs.Window.{columns, rows, node_at}
 use Rattle.sn_clear.specs.Field.{Field, IsSpot, is_useful, holds, spot_of}
 use Rattle.sn_clear.specs.Runs.{IsLine, runs_on}
-use Rattle.sn_clear.specs.Rows.{is_selected, sweep}
+use Rattle.sn_clear.specs.Rows.{row_number, is_selected, row_place, line_at, sweep}
 use Rattle.sn_clear.specs.Columns.{IsCentreOf, covers, with_columns}
 use Rattle.sn_clear.specs.Strokes.{field_of}
 use Rattle.sn_clear.specs.Thrift.{AreRunsOn, AreThrifty, HasUseful, IsHolder, IsNextColumn, IsOpen, IsSelectedRow}
@@ -65,6 +66,27 @@ abbrev pub LastRowIsSelected : Type 0
 LastRowIsSelected =
     (f : Field) (every row : ℕ) → row < f.rows → HasUseful f row → ((later : ℕ) → row < later → later < f.rows → ¬ HasUseful f later)
     → IsTrue (is_selected f every row)
+
+-- the number of a row is how many rows before it have a useful centre
+abbrev pub RowNumbersCountUsefulRows : Type 0
+RowNumbersCountUsefulRows =
+    (f : Field)
+    → (row_number f 0 ≡ 0)
+    × ((row : ℕ) → HasUseful f row → row_number f (row + 1) ≡ row_number f row + 1)
+    × ((row : ℕ) → ¬ HasUseful f row → row_number f (row + 1) ≡ row_number f row)
+
+-- its place is how many rows before it are selected
+abbrev pub RowPlacesCountSelectedRows : Type 0
+RowPlacesCountSelectedRows =
+    (f : Field) (every : ℕ)
+    → (row_place f every 0 ≡ 0)
+    × ((row : ℕ) → IsSelectedRow f every row → row_place f every (row + 1) ≡ row_place f every row + 1)
+    × ((row : ℕ) → row < f.rows → ¬ IsSelectedRow f every row → row_place f every (row + 1) ≡ row_place f every row)
+
+-- the first selected row rises, and from each to the next the direction changes
+abbrev pub DirectionsAlternate : Type 0
+DirectionsAlternate =
+    (row place : ℕ) → (place % 2 ≡ 0 → line_at row place ≡ Rising row) × (place % 2 ≢ 0 → line_at row place ≡ Falling row)
 
 -- Thrift.
 

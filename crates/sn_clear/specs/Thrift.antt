@@ -1,5 +1,6 @@
--- MEANING: which strokes are thrifty, described and not computed: the maximal runs of the selected rows, and then columns, each for
--- the first target that no earlier stroke covers, until no target is left (this project's own).
+-- MEANING: which strokes are thrifty: the maximal runs of the selected rows, and then columns, each for the first target that no
+-- earlier stroke covers, until no target is left (this project's own). The numbers, the places and the directions of rows are
+-- computed (Rows), and laws say what they are (StrokeLaws); all else is described.
 use Rattle.std.specs.Prelude.{◌≡◌, ◌↔◌, ℕ, zero, suc, ◌+◌, ◌*◌, ◌%◌, ◌<◌, ◌≤◌, ◌⊎◌, IsTrue, Bool, false, List, [], ◌∷◌, ◌++◌, slice_index_or}
 use Rattle.std.specs.List.{AllPairs, Contains}
 use Rattle.sn_clear.specs.declared.spot.Spot.{Spot}

@@ -1,5 +1,5 @@
 //! Laws of the strokes of a step that clears its feature.
-ghost use Rattle.sn_clear.specs.StrokeLaws.{StrokesLieOnUsefulCentres, UsefulCentresHoldTargets, StrokesCoverByTheirCentres, DiscsAreThoseOfTheGrid, RowsAreMaximalRuns, MultiplesAndTheLastAreSelected, LastRowIsSelected, ColumnsCoverOpenTargets, HeldByCentres, StrokesAreThrifty, OneListIsThrifty};
+ghost use Rattle.sn_clear.specs.StrokeLaws.{StrokesLieOnUsefulCentres, UsefulCentresHoldTargets, StrokesCoverByTheirCentres, DiscsAreThoseOfTheGrid, RowsAreMaximalRuns, MultiplesAndTheLastAreSelected, LastRowIsSelected, RowNumbersCountUsefulRows, RowPlacesCountSelectedRows, DirectionsAlternate, ColumnsCoverOpenTargets, HeldByCentres, StrokesAreThrifty, OneListIsThrifty};
 
 /// Laws of where strokes lie.
 pub fn places()
@@ -18,6 +18,9 @@ pub fn rows()
     ensures runs { RowsAreMaximalRuns }
     ensures selected { MultiplesAndTheLastAreSelected }
     ensures last { LastRowIsSelected }
+    ensures numbers { RowNumbersCountUsefulRows }
+    ensures places { RowPlacesCountSelectedRows }
+    ensures directions { DirectionsAlternate }
 {}
 
 /// Laws of thrift.

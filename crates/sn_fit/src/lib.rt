@@ -1,6 +1,6 @@
 //! The strokes of steps that follow a trail or that drill.
 //!
-//! Lengths are whole micrometres.
+//! Lengths are whole tenths of a micrometre.
 #![tactic(auto)]
 
 mod drill;

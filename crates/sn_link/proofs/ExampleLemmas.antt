@@ -1,7 +1,8 @@
 -- The plans of the jobs of the examples: a hole that is drilled, and a trail that is followed.
-use Rattle.std.proofs.Common.{◌≡◌, inl, inr, List, [], ◌∷◌, ◌++◌, ℤ, pos, ◌+ℤ◌, ◌≤ℤ◌, ◌<ℤ◌, refl, arith}
+use Rattle.std.proofs.Common.{◌≡◌, ◌*◌, ◌-◌, inl, inr, List, [], ◌∷◌, ◌++◌, ℤ, pos, ◌+ℤ◌, ◌≤ℤ◌, ◌<ℤ◌, refl, arith}
 use Rattle.sn_geom.proofs.Ring.{sums}
 use Rattle.sn_geom.proofs.Nearness.{near_one_place}
+use Rattle.sn_geom.specs.declared.limits.TheConstants.{PER_MM}
 use Rattle.sn_geom.specs.declared.units.Pt.{Pt}
 use Rattle.sn_geom.specs.declared.tip.Tip.TheVariants.{Height}
 use Rattle.sn_outline.specs.Job.{Job}
@@ -11,7 +12,7 @@ use Rattle.sn_open.specs.Region.{InAllowed, IsDrilled, IsOpening}
 use Rattle.sn_fit.specs.Fit.{strokes_along}
 use Rattle.sn_link.specs.declared.moves.Move.{Move}
 use Rattle.sn_link.specs.declared.moves.Move.TheVariants.{Feed}
-use Rattle.sn_link.specs.Examples.{at, drill, plate, trail}
+use Rattle.sn_link.specs.Examples.{at, drill, mm, plate, trail}
 use Rattle.sn_link.specs.Layers.{IsFreeWay}
 use Rattle.sn_link.specs.Moves.{over, approach, lift, made}
 use Rattle.sn_link.specs.Plan.{IsHighest, IsStepPlan}
@@ -37,7 +38,7 @@ untouched job step n z raw allowed above is = record {
 -- The hole.
 
 abbrev centre : Pt
-centre = at (pos 10000) (pos 10000)
+centre = at (mm 10) (mm 10)
 
 abbrev middle : Node
 middle = record { i = pos 10; j = pos 10 }
@@ -46,11 +47,11 @@ middle_is_raw : IsRawNode (plate drill) middle
 middle_is_raw = record { left = omega (arith, sums); right = omega (arith, sums); front = omega (arith, sums); back = omega (arith, sums) }
 
 -- the side allowance is none, so each node in the hole is allowed
-hole_is_allowed : (n : Node) → InDisc 1000 8000 centre n → InAllowed (plate drill) drill n
+hole_is_allowed : (n : Node) → InDisc PER_MM (8 * PER_MM) centre n → InAllowed (plate drill) drill n
 hole_is_allowed n disc m same raw =
     let c = centre in
-    let near = near_of_disc 8000 0 c c (place 1000 n) (place 1000 m) ((near_one_place 8000 c (place 1000 n)).1 disc) same in
-    (near_one_place 8000 c (place 1000 m)).0 near
+    let near = near_of_disc (8 * PER_MM) 0 c c (place PER_MM n) (place PER_MM m) ((near_one_place (8 * PER_MM) c (place PER_MM n)).1 disc) same in
+    (near_one_place (8 * PER_MM) c (place PER_MM m)).0 near
 
 middle_is_drilled : IsDrilled (plate drill) drill centre middle
 middle_is_drilled = record { under = record { close = omega arith }; free = hole_is_allowed }
@@ -59,18 +60,18 @@ middle_is_opened : IsOpening (plate drill) drill middle
 middle_is_opened = record { raw = middle_is_raw; reached = middle_is_drilled }
 
 abbrev hole_moves : List Move
-hole_moves = approach (pos 20000) centre (pos 10000) (pos 4000) ++ Feed (over centre (pos 4000)) ∷ lift (pos 20000) centre (pos 4000) 300
+hole_moves = approach (mm 20) centre (mm 10) (mm 4) ++ Feed (over centre (mm 4)) ∷ lift (mm 20) centre (mm 4) PER_MM
 
-pub hole_plan : IsStepPlan (plate drill) drill [] (Height (pos 20000)) (made (Height (pos 20000)) hole_moves)
+pub hole_plan : IsStepPlan (plate drill) drill [] (Height (mm 20)) (made (Height (mm 20)) hole_moves)
 hole_plan = record {
-  above = pos 10000;
-  highest = untouched (plate drill) drill middle (pos 9999) middle_is_raw (hole_is_allowed middle middle_is_drilled.under) (omega (arith, sums)) refl;
+  above = mm 10;
+  highest = untouched (plate drill) drill middle (pos (10 * PER_MM - 1)) middle_is_raw (hole_is_allowed middle middle_is_drilled.under) (omega (arith, sums)) refl;
   strokes = record { from = centre; to = centre } ∷ [];
   strokes_are = inl ((middle, middle_is_opened), refl);
   moves_are = inr (record {
     high = omega (arith, sums);
     some = λ none. cc;
-    tips = pos 4000 ∷ [];
+    tips = mm 4 ∷ [];
     layers = refl;
     all = hole_moves;
     all_are = (hole_moves, [], (_, refl, refl), refl, refl);
@@ -81,13 +82,13 @@ hole_plan = record {
 -- The trail.
 
 abbrev a : Pt
-a = at (pos 10000) (pos 10000)
+a = at (mm 10) (mm 10)
 
 abbrev b : Pt
-b = at (pos 30000) (pos 10000)
+b = at (mm 30) (mm 10)
 
 abbrev c : Pt
-c = at (pos 30000) (pos 25000)
+c = at (mm 30) (mm 25)
 
 abbrev points : List Pt
 points = a ∷ b ∷ c ∷ []
@@ -96,11 +97,11 @@ abbrev along : Node
 along = record { i = pos 20; j = pos 10 }
 
 segments_are_free : AreFree (plate trail) trail (strokes_along points)
-segments_are_free = trail_is_free (plate trail) trail points 8000 refl refl
+segments_are_free = trail_is_free (plate trail) trail points (8 * PER_MM) refl refl
 
 turn_is_free : IsFreeWay (plate trail) trail b b
 turn_is_free n near =
-    segments_are_free.0 n (under_end (plate trail) trail a b n ((near_one_place 8000 b (place 1000 n)).0 near))
+    segments_are_free.0 n (under_end (plate trail) trail a b n ((near_one_place (8 * PER_MM) b (place PER_MM n)).0 near))
 
 along_is_raw : IsRawNode (plate trail) along
 along_is_raw = record { left = omega (arith, sums); right = omega (arith, sums); front = omega (arith, sums); back = omega (arith, sums) }
@@ -110,26 +111,26 @@ along_is_allowed = segments_are_free.0 along (1, 2, record { fraction = record {
 
 -- the moves from the second point on
 abbrev turn_moves : List Move
-turn_moves = Feed (over c (pos 8000)) ∷ lift (pos 20000) c (pos 8000) 300
+turn_moves = Feed (over c (mm 8)) ∷ lift (mm 20) c (mm 8) PER_MM
 
 abbrev trail_moves : List Move
 trail_moves =
-    approach (pos 20000) a (pos 10000) (pos 8000)
-    ++ Feed (over b (pos 8000)) ∷ Feed (over b (pos 8000)) ∷ turn_moves
+    approach (mm 20) a (mm 10) (mm 8)
+    ++ Feed (over b (mm 8)) ∷ Feed (over b (mm 8)) ∷ turn_moves
 
-pub trail_plan : IsStepPlan (plate trail) trail [] (Height (pos 20000)) (made (Height (pos 20000)) trail_moves)
+pub trail_plan : IsStepPlan (plate trail) trail [] (Height (mm 20)) (made (Height (mm 20)) trail_moves)
 trail_plan = record {
-  above = pos 10000;
-  highest = untouched (plate trail) trail along (pos 9999) along_is_raw along_is_allowed (omega (arith, sums)) refl;
+  above = mm 10;
+  highest = untouched (plate trail) trail along (pos (10 * PER_MM - 1)) along_is_raw along_is_allowed (omega (arith, sums)) refl;
   strokes = strokes_along points;
   strokes_are = refl;
   moves_are = inr (record {
     high = omega (arith, sums);
     some = λ none. cc;
-    tips = pos 8000 ∷ [];
+    tips = mm 8 ∷ [];
     layers = (refl, omega (arith, sums));
     all = trail_moves;
-    all_are = (trail_moves, [], (_, (Feed (over b (pos 8000)) ∷ [], turn_moves, inl (turn_is_free, refl), refl, refl), refl), refl, refl);
+    all_are = (trail_moves, [], (_, (Feed (over b (mm 8)) ∷ [], turn_moves, inl (turn_is_free, refl), refl, refl), refl), refl, refl);
     moves_are = refl;
   });
 }

@@ -1,5 +1,5 @@
 -- The laws of the layers of a step.
-use Rattle.std.proofs.Common.{ℕ, zero, suc, ◌≡◌, ◌≤◌, inl, inr, ⊎_elim, List, [], ◌∷◌, ◌++◌, length, ℤ, pos, ◌+ℤ◌, ◌-ℤ◌, ◌≤ℤ◌, ◌<ℤ◌, unsigned_abs, refl, sym, ap, ◌∙◌, arith}
+use Rattle.std.proofs.Common.{ℕ, zero, suc, ◌≡◌, ◌≤◌, inl, inr, ⊎_elim, List, [], ◌∷◌, ◌++◌, length, ℤ, pos, ◌+ℤ◌, ◌-ℤ◌, ◌≤ℤ◌, ◌<ℤ◌, unsigned_abs, refl, sym, ap, ◌∙◌, append-nil, arith}
 use Rattle.std.proofs.lemmas.Int.{ints, by_lt_z}
 use Rattle.sn_geom.proofs.Ring.{sums}
 use Rattle.sn_geom.specs.declared.units.Pt.{Pt}
@@ -15,9 +15,9 @@ use Rattle.sn_fit.specs.Fit.{strokes_along, strokes_of_trail}
 use Rattle.sn_link.specs.declared.moves.Move.{Move}
 use Rattle.sn_link.specs.declared.moves.Move.TheVariants.{Feed}
 use Rattle.sn_link.specs.Layers.{AreLayers}
-use Rattle.sn_link.specs.Moves.{over, approach, lift}
+use Rattle.sn_link.specs.Moves.{over, approach}
 use Rattle.sn_link.specs.Plan.{IsHighest, IsCutInLayers, IsStepPlan}
-use Rattle.sn_link.specs.PlanLaws.{LayersAreAnAxialDepthApart, LayersComeToTheFloor, OneListOfLayers, LinksAreFedOrLifted, LayersGoAlongTheirStrokes, LaterLayersBeginWhereTheLastCut, TrailsAreFollowedInLayers}
+use Rattle.sn_link.specs.PlanLaws.{LayersAreAnAxialDepthApart, LayersComeToTheFloor, OneListOfLayers, LinksAreFedOrLifted, LayersGoAlongTheirStrokes, LaterLayersBeginWhereTheLastCut, TrailsAreFollowedInLayers, along_one}
 use Rattle.sn_link.proofs.ByWayLemmas.{strokes_by}
 use Rattle.sn_link.proofs.ExampleLemmas.{trail_plan}
 use Rattle.sn_link.proofs.OnePlanLemmas.{moves_by, one_list_of_layers}
@@ -64,26 +64,21 @@ the_list_of_layers axial floor above some others p q = one_list_of_layers axial 
 -- Moves.
 
 pub fed_or_lifted : LinksAreFedOrLifted
-fed_or_lifted a b moves (inl (free, is)) = ((λ free'. is), (λ shut. absurd (shut free)))
-fed_or_lifted a b moves (inr (shut, is)) = ((λ free. absurd (shut free)), (λ shut'. is))
+fed_or_lifted job step above tip a b moves (inl (free, is)) = ((λ free'. is), (λ shut. absurd (shut free)))
+fed_or_lifted job step above tip a b moves (inr (shut, is)) = ((λ free. absurd (shut free)), (λ shut'. is))
 
 pub along_their_strokes : LayersGoAlongTheirStrokes
-along_their_strokes s t moves free (rest, (link, more, inl (free', is_link), is_more, is_rest), is) =
-    is ∙ ap (λ (ms : List Move). approach (pos 20000) s.from (pos 9500) (pos 7500) ++ ms)
-    (is_rest ∙ (λ i. Feed (over s.to (pos 7500)) ∷ is_link i ++ is_more i))
-along_their_strokes s t moves free (rest, (link, more, inr (shut, is_link), is_more, is_rest), is) = absurd (shut free)
-
-one_stroke_layer : Stroke → ℤ → ℤ → List Move
-one_stroke_layer s above tip = approach (pos 20000) s.from above tip ++ Feed (over s.to tip) ∷ lift (pos 20000) s.to tip 300
+along_their_strokes job step above tip s t moves free (rest, (link, more, inl (free', is_link), is_more, is_rest), is) =
+    is ∙ ap (λ (ms : List Move). approach job.sec s.from above tip ++ ms)
+    (is_rest ∙ (λ i. Feed (over s.to tip) ∷ is_link i ++ is_more i))
+along_their_strokes job step above tip s t moves free (rest, (link, more, inr (shut, is_link), is_more, is_rest), is) = absurd (shut free)
 
 pub where_the_last_cut : LaterLayersBeginWhereTheLastCut
-unfolding one_stroke_layer
-where_the_last_cut s moves (first, others, (rest, is_rest, is_first), (second, none, (rest', is_rest', is_second), is_none, is_others), is) =
-    let one : first ≡ one_stroke_layer s (pos 9500) (pos 7500) =
-    is_first ∙ ap (λ (ms : List Move). approach (pos 20000) s.from (pos 9500) (pos 7500) ++ ms) is_rest in
-    let two : second ≡ one_stroke_layer s (pos 7800) (pos 4000) =
-    is_second ∙ ap (λ (ms : List Move). approach (pos 20000) s.from (pos 7800) (pos 4000) ++ ms) is_rest' in
-    is ∙ (λ i. one i ++ (is_others ∙ (λ j. two j ++ is_none j)) i)
+where_the_last_cut job step above tip next s moves (first, others, (rest, is_rest, is_first), (second, none, (rest', is_rest', is_second), is_none, is_others), is) =
+    let cut = tip +ℤ pos step.body.e in
+    let one : first ≡ along_one job step above tip s = is_first ∙ ap (λ (ms : List Move). approach job.sec s.from above tip ++ ms) is_rest in
+    let two : second ≡ along_one job step cut next s = is_second ∙ ap (λ (ms : List Move). approach job.sec s.from cut next ++ ms) is_rest' in
+    is ∙ (λ i. one i ++ (is_others ∙ (λ j. two j ++ is_none j) ∙ append-nil (along_one job step cut next s)) i)
 
 -- Trails.
 

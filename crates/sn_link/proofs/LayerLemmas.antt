@@ -233,6 +233,7 @@ module _ (job : Job) (step : StepJob) where
   safe_upright : (before : List Pass) (p : Pt) (a b : ℤ) → tip_floor step ≤ℤ a → tip_floor step ≤ℤ b
       → ((n : Node) → under job step p n → InAllowed job step n) → IsSafeWay job step before (over p a) (over p b)
   safe_upright before p a b over_a over_b free = record {
+    over = λ c touch. free (node_of c) (touched step.body.d p a b (low_end job.pitch c) touch).1;
     allowed = λ c left touch.
         let met = touched step.body.d p a b (low_end job.pitch c) touch in
         record { node = free (node_of c) met.1; height = height_by step c.z step.bottom refl (not_lower (tip_floor step) a b c.z over_a over_b met.0) };
@@ -243,6 +244,8 @@ module _ (job : Job) (step : StepJob) where
   safe_along : (before : List Pass) (p q : Pt) (above tip : ℤ) → IsLayered job step above tip → (p ≡ q) ⊎ IsShallowLayer step above tip
       → IsFreeWay job step p q → IsLow job before (along job step p q) above → IsSafeWay job step before (over p tip) (over q tip)
   safe_along before p q above tip heights shallow free low = record {
+    over = λ c touch.
+        free (node_of c) ((touch_by_height_and_plan step.body.d (over p tip) (over q tip) (low_end job.pitch c) (inl refl)).0 touch).1;
     allowed = λ c left touch.
         let met = (touch_by_height_and_plan step.body.d (over p tip) (over q tip) (low_end job.pitch c) (inl refl)).0 touch in
         record {

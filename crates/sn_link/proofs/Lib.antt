@@ -1,5 +1,6 @@
 pub mod ByWayLemmas
 pub mod CellLemmas
+pub mod CountLawLemmas
 pub mod CountLemmas
 pub mod ExampleLemmas
 pub mod FreeWayLemmas

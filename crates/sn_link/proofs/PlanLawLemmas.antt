@@ -1,5 +1,6 @@
 -- The laws of plans.
-use Rattle.std.proofs.Common.{ℕ, ◌≡◌, ◌≢◌, ◌<◌, Option, ◌⊎◌, inl, inr, ⊎_elim, None, Some, List, [], ◌∷◌, ◌++◌, length, map, ℤ, pos, ◌+ℤ◌, ◌≤ℤ◌, ◌<ℤ◌, refl, sym, ap, subst, ◌∙◌, append-nil, arith}
+use Rattle.std.proofs.Common.{ℕ, ◌≡◌, ◌≢◌, ◌<◌, Option, ◌⊎◌, inl, inr, ⊎_elim, None, Some, List, [], ◌∷◌, ◌++◌, length, map, ℤ, pos, ◌+ℤ◌, ◌≤ℤ◌, ◌<ℤ◌, refl, sym, ap, subst, ◌∙◌, append-nil, nat_eq, arith}
+use Rattle.std.proofs.lemmas.Bool.{cond-true, cond-false, eq-eqb, eqb-true, false_from_ne_true}
 use Rattle.std.proofs.lemmas.Int.{by_lt_z}
 use Rattle.sn_geom.proofs.Ring.{sums}
 use Rattle.sn_geom.specs.declared.units.Pt.{Pt}
@@ -18,11 +19,10 @@ use Rattle.sn_open.specs.declared.stroke.Stroke.{Stroke}
 use Rattle.sn_fit.specs.Fit.{strokes_along, strokes_of_trail, strokes_at_centre, OpensSome, AreDrillStrokes}
 use Rattle.sn_link.specs.declared.moves.Move.{Move}
 use Rattle.sn_link.specs.declared.moves.Move.TheVariants.{Rapid, Feed}
-use Rattle.sn_link.specs.Examples.{at, drill, with_other_tool}
 use Rattle.sn_link.specs.Layers.{IsClearing, AreStrokes, AreLayerMoves}
 use Rattle.sn_link.specs.Moves.{over, approach, lift, plunge, made, same_place, stands_at, tip_for, tip_after_moves}
 use Rattle.sn_link.specs.Plan.{IsHighest, NeedsNoLayer, IsCutInLayers, IsStepPlan, ArePlans, passes_by}
-use Rattle.sn_link.specs.PlanLaws.{OnePlan, NothingToCutNoMoves, RepeatedStepsRest, StepsBeginAtTheTip, PlungesFrom, DrillsPlunge}
+use Rattle.sn_link.specs.PlanLaws.{TipsAreKept, OnePlan, NothingToCutNoMoves, RepeatedStepsRest, AreMadeFrom, StepsBeginAtTheTip, DrillsPlunge}
 use Rattle.sn_link.proofs.ByWayLemmas.{layers_by, strokes_by}
 use Rattle.sn_link.proofs.ExampleLemmas.{hole_plan}
 use Rattle.sn_link.proofs.MovesLemmas.{by_test, same_test}
@@ -94,12 +94,12 @@ nothing_to_cut_no_moves job step passes tip moves p = (
 )
 
 pub repeated_steps_rest : RepeatedStepsRest
-repeated_steps_rest job first some [] low plans cut = refl
-repeated_steps_rest job first some (move ∷ moves) low plans cut =
+repeated_steps_rest job step first some [] low plans cut = refl
+repeated_steps_rest job step first some (move ∷ moves) low plans cut =
     let p = plans.1.0 in
-    no_moves job drill _ _ (move ∷ moves) p
-    (inl (⊎_elim (λ e. not_over (tip_floor drill) job.low.z p.above e low)
-    (λ (c, left, allowed, e). next_not_over_unless (tip_floor drill) c.z p.above e
+    no_moves job step _ _ (move ∷ moves) p
+    (inl (⊎_elim (λ e. not_over (tip_floor step) job.low.z p.above e low)
+    (λ (c, left, allowed, e). next_not_over_unless (tip_floor step) c.z p.above e
     (λ over. let (pass, inside, by) = cut c left.raw allowed over in left.uncut pass inside by)) p.highest.reached))
 
 -- Plunges.
@@ -156,42 +156,32 @@ plunges_at job step centre d passes tip moves above drills has highest high open
 pub drills_plunge : DrillsPlunge
 drills_plunge = (plunges_at, record { steps = refl; moves = (hole_plan, tt) })
 
--- the drill of the examples, where it moves
-plunges : (job : Job) (step : StepJob) (centre : Pt) (passes : List Pass) (tip : Tip) (moves : List Move) → step.way ≡ way.Drill
-    → ((strokes : List Stroke) → AreDrillStrokes job step strokes → (strokes ≡ record { from = centre; to = centre } ∷ []) ⊎ (strokes ≡ []))
-    → moves ≢ [] → IsStepPlan job step passes tip moves → (above : ℤ) × (moves ≡ made tip (plunge job step centre above))
-plunges job step centre passes tip moves drills one moved p =
-    let are : AreDrillStrokes job step p.strokes = from_its_way job step way.Drill p.strokes drills p.strokes_are in
+-- Tips.
+
+tip_of_its_tool : (job : Job) (step : StepJob) (tip : Tip) → tip_for job (Some step.tool) tip step ≡ tip
+tip_of_its_tool job step tip = cond-true (nat_eq step.tool step.tool) tip (Height job.sec) (eq-eqb step.tool step.tool refl)
+
+tip_of_another : (job : Job) (step : StepJob) (tip : Tip) (tool : ℕ) → tool ≢ step.tool → tip_for job (Some tool) tip step ≡ Height job.sec
+tip_of_another job step tip tool other =
+    cond-false (nat_eq tool step.tool) tip (Height job.sec) (false_from_ne_true (nat_eq tool step.tool) (λ same. other (eqb-true tool step.tool same)))
+
+pub tips_are_kept : TipsAreKept
+tips_are_kept job step tip = (tip_of_its_tool job step tip, tip_of_another job step tip, refl, λ p q r. (refl, refl, refl))
+
+-- the moves of a step with moves
+made_from : (job : Job) (step : StepJob) (passes : List Pass) (tip start : Tip) (moves : List Move) → moves ≢ [] → tip ≡ start
+    → IsStepPlan job step passes tip moves → AreMadeFrom job step start moves
+made_from job step passes tip start moves moved same p =
     ⊎_elim
     (λ (clear, none). absurd (moved none))
-    (λ cut.
-    ⊎_elim
-    (λ is. (p.above, cut_is_plunge job step centre p.above tip moves drills (subst (λ (ss : List Stroke). IsCutInLayers job step ss p.above tip moves) is cut)))
-    (λ no_stroke. absurd (cut.some no_stroke))
-    (one p.strokes are)) p.moves_are
-
-at_its_centre : (job : Job) (strokes : List Stroke) → AreDrillStrokes job drill strokes → (strokes ≡ record { from = at (pos 10000) (pos 10000); to = at (pos 10000) (pos 10000) } ∷ []) ⊎ (strokes ≡ [])
-at_its_centre job strokes (inl (opens, is)) = inl is
-at_its_centre job strokes (inr (none, is)) = inr is
-
-at_the_same_centre : (job : Job) (strokes : List Stroke) → AreDrillStrokes job with_other_tool strokes → (strokes ≡ record { from = at (pos 10000) (pos 10000); to = at (pos 10000) (pos 10000) } ∷ []) ⊎ (strokes ≡ [])
-at_the_same_centre job strokes (inl (opens, is)) = inl is
-at_the_same_centre job strokes (inr (none, is)) = inr is
-
-begins_after : (job : Job) (first : Move) (some others : List Move) → others ≢ []
-    → ArePlans job [] None Unknown ((drill, first ∷ some) ∷ (with_other_tool, []) ∷ (drill, others) ∷ [])
-    → PlungesFrom job drill (tip_after_moves (Height job.sec) (first ∷ some)) others
-begins_after job first some [] moved plans = absurd (moved refl)
-begins_after job first some (move ∷ moves) moved plans = plunges job drill (at (pos 10000) (pos 10000)) _ _ (move ∷ moves) refl (at_its_centre job) moved plans.1.1.0
-
-begins_anew : (job : Job) (first : Move) (some others : List Move) → others ≢ []
-    → ArePlans job [] None Unknown ((drill, first ∷ some) ∷ (with_other_tool, others) ∷ [])
-    → PlungesFrom job with_other_tool (Height job.sec) others
-begins_anew job first some [] moved plans = absurd (moved refl)
-begins_anew job first some (move ∷ moves) moved plans = plunges job with_other_tool (at (pos 10000) (pos 10000)) _ _ (move ∷ moves) refl (at_the_same_centre job) moved plans.1.0
+    (λ cut. (p.strokes, p.above, subst (λ (t : Tip). IsCutInLayers job step p.strokes p.above t moves) same cut)) p.moves_are
 
 pub steps_begin_at_the_tip : StepsBeginAtTheTip
-steps_begin_at_the_tip job first some others moved = (begins_after job first some others moved, begins_anew job first some others moved)
+steps_begin_at_the_tip job step other first some [] moved = absurd (moved refl)
+steps_begin_at_the_tip job step other first some (move ∷ moves) moved = (
+  λ plans. made_from job step _ _ _ (move ∷ moves) moved (tip_of_its_tool job step _) plans.1.1.0,
+  λ differ plans. made_from job other _ _ _ (move ∷ moves) moved (tip_of_another job other _ step.tool differ) plans.1.0,
+)
 
 -- A job has one plan.
 

@@ -1,3 +1,5 @@
+pub mod ClearingLaws
+pub mod CountLaws
 pub mod Counts
 pub mod Examples
 pub mod Layering

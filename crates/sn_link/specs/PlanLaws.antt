@@ -1,10 +1,11 @@
 -- MEANING: laws of plans.
-use Rattle.std.specs.Prelude.{◌≡◌, ◌≢◌, ℕ, ◌+◌, ◌≤◌, ◌<◌, ◌≤ℤ◌, ◌<ℤ◌, ◌∷◌, ℤ, pos, List, [], length, Contains, Some, None}
+use Rattle.std.specs.Prelude.{◌≡◌, ◌≢◌, ℕ, ◌+◌, ◌*◌, ◌≤◌, ◌<◌, ◌+ℤ◌, ◌≤ℤ◌, ◌<ℤ◌, ◌∷◌, ◌++◌, ℤ, pos, List, [], length, Contains, Some, None}
+use Rattle.std.specs.Int.{int_min}
 use Rattle.sn_geom.specs.declared.units.Pt.{Pt}
 use Rattle.sn_geom.specs.declared.units.Pt3.{Pt3}
 use Rattle.sn_geom.specs.declared.units.Cell.{Cell}
 use Rattle.sn_geom.specs.declared.units.Body.{Body}
-use Rattle.sn_geom.specs.declared.limits.TheConstants.{GAP}
+use Rattle.sn_geom.specs.declared.limits.TheConstants.{GAP, PER_MM, REACH}
 use Rattle.sn_outline.specs.Job.{Job, tip_floor}
 use Rattle.sn_outline.specs.JobRule.{IsJob}
 use Rattle.sn_outline.specs.declared.job.StepJob.{StepJob}
@@ -20,19 +21,20 @@ use Rattle.sn_geom.specs.declared.tip.Tip.TheVariants.{Unknown, Height, At}
 use Rattle.sn_link.specs.declared.moves.Move.{Move}
 use Rattle.sn_link.specs.declared.moves.Move.TheVariants.{Rapid, Feed}
 use Rattle.sn_link.specs.Layers.{AreLayers, AreStrokes, IsFreeWay, IsLink, IsLayer, AreLayerMoves}
-use Rattle.sn_link.specs.Moves.{over, made, plunge, tip_for, tip_after_moves}
+use Rattle.sn_link.specs.Moves.{over, approach, lift, made, plunge, tip_for, tip_after_moves}
 use Rattle.sn_link.specs.Plan.{IsHighest, IsCutInLayers, IsStepPlan, passes_by, ArePlans, IsPlan}
-use Rattle.sn_link.specs.Examples.{boxed, plate, with_other_tool, drill, trail, at}
+use Rattle.sn_link.specs.Examples.{plate, drill, trail, at, mm}
 
 -- the tip of a step is where the last step left it where the step's tool is in the spindle already, and else at the
 -- security height; moves leave it at the end of the last one
 abbrev pub TipsAreKept : Type 0
 TipsAreKept =
-    (job : Job) (p q r : Pt3)
-    → (tip_for job (Some 1) (At p) drill ≡ At p) × (tip_for job (Some 2) (At p) drill ≡ Height job.sec)
-    × (tip_for job None (At p) drill ≡ Height job.sec)
-    × (tip_after_moves (At p) (Rapid q ∷ Feed r ∷ []) ≡ At r) × (tip_after_moves (At p) [] ≡ At p)
-    × (tip_after_moves (Height job.sec) (Rapid q ∷ []) ≡ At q)
+    (job : Job) (step : StepJob) (tip : Tip)
+    → (tip_for job (Some step.tool) tip step ≡ tip) × ((tool : ℕ) → tool ≢ step.tool → tip_for job (Some tool) tip step ≡ Height job.sec)
+    × (tip_for job None tip step ≡ Height job.sec)
+    × ((p q r : Pt3)
+    → (tip_after_moves (At p) (Rapid q ∷ Feed r ∷ []) ≡ At r) × (tip_after_moves (At p) [] ≡ At p)
+    × (tip_after_moves (Height job.sec) (Rapid q ∷ []) ≡ At q))
 
 -- moves cut in their passes at feed alone, each from where the move before it ends
 abbrev pub OnlyFeedsOfMovesCut : Type 0
@@ -66,32 +68,32 @@ NothingToCutNoMoves =
 -- floor up
 abbrev pub RepeatedStepsRest : Type 0
 RepeatedStepsRest =
-    (job : Job) (first : Move) (some others : List Move)
-    → job.low.z ≤ℤ tip_floor drill → ArePlans job [] None Unknown ((drill, first ∷ some) ∷ (drill, others) ∷ [])
-    → ((c : Cell) → IsRawCell job c → InAllowed job drill (node_of c) → tip_floor drill ≤ℤ c.z
-    → (pass : Pass) × Contains (passes_by drill.body (Height job.sec) (first ∷ some)) pass × IsCutBy job.pitch pass c)
+    (job : Job) (step : StepJob) (first : Move) (some others : List Move)
+    → job.low.z ≤ℤ tip_floor step → ArePlans job [] None Unknown ((step, first ∷ some) ∷ (step, others) ∷ [])
+    → ((c : Cell) → IsRawCell job c → InAllowed job step (node_of c) → tip_floor step ≤ℤ c.z
+    → (pass : Pass) × Contains (passes_by step.body (Height job.sec) (first ∷ some)) pass × IsCutBy job.pitch pass c)
     → others ≡ []
 
--- the moves are those of a plunge of the step, made from the tip
-abbrev pub PlungesFrom : Job → StepJob → Tip → List Move → Type 0
-PlungesFrom job step tip moves = (above : ℤ) × (moves ≡ made tip (plunge job step (at (pos 10000) (pos 10000)) above))
+-- the moves are those of the layers of the step over some strokes, made from the tip
+abbrev pub AreMadeFrom : Job → StepJob → Tip → List Move → Type 0
+AreMadeFrom job step tip moves = (strokes : List Stroke) × (above : ℤ) × IsCutInLayers job step strokes above tip moves
 
 -- a step begins where the last step with moves left the tip, where that had its tool, and otherwise at the security height
 abbrev pub StepsBeginAtTheTip : Type 0
 StepsBeginAtTheTip =
-    (job : Job) (first : Move) (some others : List Move) → others ≢ []
-    → (ArePlans job [] None Unknown ((drill, first ∷ some) ∷ (with_other_tool, []) ∷ (drill, others) ∷ [])
-    → PlungesFrom job drill (tip_after_moves (Height job.sec) (first ∷ some)) others)
-    × (ArePlans job [] None Unknown ((drill, first ∷ some) ∷ (with_other_tool, others) ∷ []) → PlungesFrom job with_other_tool (Height job.sec) others)
+    (job : Job) (step other : StepJob) (first : Move) (some others : List Move) → others ≢ []
+    → (ArePlans job [] None Unknown ((step, first ∷ some) ∷ (other, []) ∷ (step, others) ∷ [])
+    → AreMadeFrom job step (tip_after_moves (Height job.sec) (first ∷ some)) others)
+    × (step.tool ≢ other.tool → ArePlans job [] None Unknown ((step, first ∷ some) ∷ (other, others) ∷ []) → AreMadeFrom job other (Height job.sec) others)
 
 -- Layers.
 
--- layers of 2 mm down to the height 4 mm: the last is at the floor, and not deeper than the others
+-- worked: layers of 2 mm down to the height 4 mm: the last is at the floor, and not deeper than the others
 abbrev pub LayersAreAnAxialDepthApart : Type 0
 LayersAreAnAxialDepthApart =
-    AreLayers 2000 (pos 4000) (pos 9500) (pos 7500 ∷ pos 5500 ∷ pos 4000 ∷ [])
-    × AreLayers 2000 (pos 4000) (pos 8000) (pos 6000 ∷ pos 4000 ∷ [])
-    × AreLayers 2000 (pos 4000) (pos 4001) (pos 4000 ∷ [])
+    AreLayers (2 * PER_MM) (mm 4) (mm 9) (mm 7 ∷ mm 5 ∷ mm 4 ∷ [])
+    × AreLayers (2 * PER_MM) (mm 4) (mm 8) (mm 6 ∷ mm 4 ∷ [])
+    × AreLayers (2 * PER_MM) (mm 4) (pos (4 * PER_MM + 1)) (mm 4 ∷ [])
 
 -- from each height over a floor there are layers down to it
 abbrev pub LayersComeToTheFloor : Type 0
@@ -104,27 +106,29 @@ OneListOfLayers =
 -- to the next stroke at feed where the way is free, and else up by the point length, and over it at the security height
 abbrev pub LinksAreFedOrLifted : Type 0
 LinksAreFedOrLifted =
-    (a b : Pt) (moves : List Move) → IsLink (boxed []) drill (pos 9500) (pos 7500) a b moves
-    → (IsFreeWay (boxed []) drill a b → moves ≡ Feed (over b (pos 7500)) ∷ [])
-    × ((¬ IsFreeWay (boxed []) drill a b)
-    → moves ≡ Feed (over a (pos 7800)) ∷ Rapid (over a (pos 20000)) ∷ Rapid (over b (pos 20000)) ∷ Rapid (over b (pos (9500 + GAP))) ∷ Feed (over b (pos 7500)) ∷ [])
+    (job : Job) (step : StepJob) (above tip : ℤ) (a b : Pt) (moves : List Move) → IsLink job step above tip a b moves
+    → (IsFreeWay job step a b → moves ≡ Feed (over b tip) ∷ [])
+    × ((¬ IsFreeWay job step a b)
+    → moves ≡ Feed (over a (int_min (tip +ℤ pos step.body.e) (pos REACH))) ∷ Rapid (over a job.sec)
+    ∷ Rapid (over b job.sec) ∷ Rapid (over b (int_min job.sec (above +ℤ pos GAP))) ∷ Feed (over b tip) ∷ [])
 
 -- a layer of two strokes with a free way from the first to the second
 abbrev pub LayersGoAlongTheirStrokes : Type 0
 LayersGoAlongTheirStrokes =
-    (s t : Stroke) (moves : List Move) → IsFreeWay (boxed []) drill s.to t.from
-    → IsLayer (boxed []) drill (pos 9500) (pos 7500) (s ∷ t ∷ []) moves
-    → moves ≡ Rapid (over s.from (pos 20000)) ∷ Rapid (over s.from (pos (9500 + GAP))) ∷ Feed (over s.from (pos 7500)) ∷ Feed (over s.to (pos 7500))
-    ∷ Feed (over t.from (pos 7500)) ∷ Feed (over t.to (pos 7500)) ∷ Feed (over t.to (pos 7800)) ∷ Rapid (over t.to (pos 20000)) ∷ []
+    (job : Job) (step : StepJob) (above tip : ℤ) (s t : Stroke) (moves : List Move) → IsFreeWay job step s.to t.from
+    → IsLayer job step above tip (s ∷ t ∷ []) moves
+    → moves ≡ approach job.sec s.from above tip ++ Feed (over s.to tip) ∷ Feed (over t.from tip) ∷ Feed (over t.to tip) ∷ lift job.sec t.to tip step.body.e
+
+-- down to a stroke, along it, and up
+abbrev pub along_one : Job → StepJob → ℤ → ℤ → Stroke → List Move
+along_one job step above tip s = approach job.sec s.from above tip ++ Feed (over s.to tip) ∷ lift job.sec s.to tip step.body.e
 
 -- in rapid a later layer is approached down to where the one before it cut with the whole diameter
 abbrev pub LaterLayersBeginWhereTheLastCut : Type 0
 LaterLayersBeginWhereTheLastCut =
-    (s : Stroke) (moves : List Move) → AreLayerMoves (boxed []) drill (s ∷ []) (pos 9500) (pos 7500 ∷ pos 4000 ∷ []) moves
-    → moves ≡ Rapid (over s.from (pos 20000)) ∷ Rapid (over s.from (pos (9500 + GAP))) ∷ Feed (over s.from (pos 7500)) ∷ Feed (over s.to (pos 7500))
-    ∷ Feed (over s.to (pos 7800)) ∷ Rapid (over s.to (pos 20000))
-    ∷ Rapid (over s.from (pos 20000)) ∷ Rapid (over s.from (pos (7800 + GAP))) ∷ Feed (over s.from (pos 4000)) ∷ Feed (over s.to (pos 4000))
-    ∷ Feed (over s.to (pos 4300)) ∷ Rapid (over s.to (pos 20000)) ∷ []
+    (job : Job) (step : StepJob) (above tip next : ℤ) (s : Stroke) (moves : List Move)
+    → AreLayerMoves job step (s ∷ []) above (tip ∷ next ∷ []) moves
+    → moves ≡ along_one job step above tip s ++ along_one job step (tip +ℤ pos step.body.e) next s
 
 -- Drilling.
 
@@ -134,9 +138,9 @@ DrillsPlunge =
     ((job : Job) (step : StepJob) (centre : Pt) (d : ℕ) (passes : List Pass) (tip : Tip) (moves : List Move) (above : ℤ)
     → step.way ≡ way.Drill → step.outline.shape ≡ Circle centre d → IsHighest job step passes above → tip_floor step <ℤ above → OpensSome job step
     → IsStepPlan job step passes tip moves → moves ≡ made tip (plunge job step centre above))
-    × (let p = at (pos 10000) (pos 10000) in
+    × (let p = at (mm 10) (mm 10) in
     IsPlan (plate drill)
-    ((drill, Rapid (over p (pos 20000)) ∷ Rapid (over p (pos (10000 + GAP))) ∷ Feed (over p (pos 4000)) ∷ Feed (over p (pos 4300)) ∷ Rapid (over p (pos 20000)) ∷ []) ∷ []))
+    ((drill, Rapid (over p (mm 20)) ∷ Rapid (over p (pos (10 * PER_MM + GAP))) ∷ Feed (over p (mm 4)) ∷ Feed (over p (mm 5)) ∷ Rapid (over p (mm 20)) ∷ []) ∷ []))
 
 -- Trails.
 
@@ -147,12 +151,12 @@ TrailsAreFollowedInLayers =
     ((job : Job) (step : StepJob) (points : List Pt) (width : ℕ) (passes : List Pass) (tip : Tip) (moves : List Move) (above : ℤ)
     → step.way ≡ way.Trail → step.outline.shape ≡ Trail points width → IsHighest job step passes above → tip_floor step <ℤ above → 2 ≤ length points
     → IsStepPlan job step passes tip moves → IsCutInLayers job step (strokes_along points) above tip moves)
-    × (let a = at (pos 10000) (pos 10000) in
-    let b = at (pos 30000) (pos 10000) in
-    let c = at (pos 30000) (pos 25000) in
+    × (let a = at (mm 10) (mm 10) in
+    let b = at (mm 30) (mm 10) in
+    let c = at (mm 30) (mm 25) in
     IsPlan (plate trail)
     ((
       trail,
-      Rapid (over a (pos 20000)) ∷ Rapid (over a (pos (10000 + GAP))) ∷ Feed (over a (pos 8000)) ∷ Feed (over b (pos 8000)) ∷ Feed (over c (pos 8000))
-          ∷ Feed (over c (pos 8300)) ∷ Rapid (over c (pos 20000)) ∷ [],
+      Rapid (over a (mm 20)) ∷ Rapid (over a (pos (10 * PER_MM + GAP))) ∷ Feed (over a (mm 8)) ∷ Feed (over b (mm 8)) ∷ Feed (over c (mm 8))
+          ∷ Feed (over c (mm 9)) ∷ Rapid (over c (mm 20)) ∷ [],
     ) ∷ []))

@@ -8,8 +8,8 @@ use Rattle.sn_geom.specs.Sweep.{Touch, IsVertical}
 use Rattle.sn_geom.specs.Length.{IsLength}
 use Rattle.sn_outline.specs.Job.{Job}
 use Rattle.sn_outline.specs.declared.job.StepJob.{StepJob}
-use Rattle.sn_raster.specs.Heights.{low_end, Pass, IsMaterial}
-use Rattle.sn_open.specs.Region.{IsAllowed}
+use Rattle.sn_raster.specs.Heights.{low_end, node_of, Pass, IsMaterial}
+use Rattle.sn_open.specs.Region.{InAllowed, IsAllowed}
 use Rattle.sn_open.specs.Good.{IsShallow}
 use Rattle.sn_link.specs.declared.moves.Move.{Move}
 use Rattle.sn_link.specs.declared.moves.Move.TheVariants.{Rapid, Feed}
@@ -19,8 +19,10 @@ use Rattle.sn_link.specs.Moves.{end_of}
 abbrev pub IsClearWay : Job → StepJob → List Pass → Pt3 → Pt3 → Type 0
 IsClearWay job step passes from to = (c : Cell) → IsMaterial job passes c → ¬ Touch step.body.d from to (low_end job.pitch c)
 
--- the tool of the step touches allowed cells alone, and sideways none that is too deep
+-- the tool of the step touches cells over allowed nodes alone, whether material is left there or not; of the material that
+-- the passes left allowed cells alone, and sideways none that is too deep
 pub record IsSafeWay (job : Job) (step : StepJob) (passes : List Pass) (from to : Pt3) : Type 0 where
+  pub over : (c : Cell) → Touch step.body.d from to (low_end job.pitch c) → InAllowed job step (node_of c)
   pub allowed : (c : Cell) → IsMaterial job passes c → Touch step.body.d from to (low_end job.pitch c) → IsAllowed job step c
   pub shallow : IsVertical from to ⊎ ((c : Cell) → IsMaterial job passes c → Touch step.body.d from to (low_end job.pitch c) → IsShallow step from to c)
 

@@ -20,7 +20,8 @@ pub record IsPlanned (job : Job) (step : StepJob) (passes : List Pass) (tip : Ti
   pub above : IsAtSecurity job tip
   pub planned : IsStepPlan job step passes tip moves
 
--- the moves are safe: no feed touches a cell that is not allowed or, sideways, one that is too deep, and no rapid touches material
+-- the moves are safe: no feed touches a cell over a node that is not allowed, whether material is left there or not, nor
+-- material that is not allowed or, sideways, too deep; and no rapid touches material
 abbrev pub PlannedMovesAreSafe : Type 0
 PlannedMovesAreSafe =
     (job : Job) (step : StepJob) (passes : List Pass) (tip : Tip) (moves : List Move) → IsPlanned job step passes tip moves

@@ -1,4 +1,6 @@
 //! Laws of the definitions. Each function's contract states laws, and the function does nothing.
+ghost use Rattle.sn_link.specs.ClearingLaws.{ClearingStrokesAreThrifty};
+ghost use Rattle.sn_link.specs.CountLaws.{EachStepWithMovesIsCounted};
 ghost use Rattle.sn_link.specs.MovesLaws.{PlungesGoDownAndUp, MovesThatStayAreLeftOut};
 ghost use Rattle.sn_link.specs.PlanLaws.{TipsAreKept, OnlyFeedsOfMovesCut, OneHighest, OnePlan, NothingToCutNoMoves, RepeatedStepsRest, StepsBeginAtTheTip, DrillsPlunge};
 ghost use Rattle.sn_link.specs.PlanLaws.{LayersAreAnAxialDepthApart, LayersComeToTheFloor, OneListOfLayers, LinksAreFedOrLifted, LayersGoAlongTheirStrokes, LaterLayersBeginWhereTheLastCut, TrailsAreFollowedInLayers};
@@ -22,6 +24,7 @@ pub fn plans()
     ensures repeated { RepeatedStepsRest }
     ensures begin_at_the_tip { StepsBeginAtTheTip }
     ensures drills { DrillsPlunge }
+    ensures counted { EachStepWithMovesIsCounted }
 {}
 
 /// Laws of the layers of a step.
@@ -41,6 +44,7 @@ pub fn planned_moves()
     ensures end_above { PlannedMovesEndAbove }
     ensures cut { PlannedMovesCutTheTargets }
     ensures straight { PlannedMovesAreStraight }
+    ensures thrifty { ClearingStrokesAreThrifty }
 {
     outside();
 }

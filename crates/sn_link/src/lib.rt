@@ -1,6 +1,6 @@
 //! Moves of the executed steps of a job: how each step is cut, over the material that the steps before it leave.
 //!
-//! Lengths are whole micrometres.
+//! Lengths are whole tenths of a micrometre.
 #![tactic(auto)]
 
 mod free_way;

@@ -1,6 +1,10 @@
+use Rattle.sn_link.proofs.CountLawLemmas.{steps_are_counted}
 use Rattle.sn_link.proofs.OnePlanLemmas.{one_highest}
-use Rattle.sn_link.proofs.PlanLawLemmas.{one_plan, nothing_to_cut_no_moves, repeated_steps_rest, steps_begin_at_the_tip, drills_plunge}
+use Rattle.sn_link.proofs.PlanLawLemmas.{tips_are_kept, one_plan, nothing_to_cut_no_moves, repeated_steps_rest, steps_begin_at_the_tip, drills_plunge}
 use Rattle.sn_link.proofs.laws.plans.Goals as goal
+
+pub returns-clause-tips : goal.returns-clause-tips
+returns-clause-tips c = tips_are_kept
 
 pub returns-clause-one_highest : goal.returns-clause-one_highest
 returns-clause-one_highest c = one_highest
@@ -19,3 +23,6 @@ returns-clause-begin_at_the_tip c = steps_begin_at_the_tip
 
 pub returns-clause-drills : goal.returns-clause-drills
 returns-clause-drills c = drills_plunge
+
+pub returns-clause-counted : goal.returns-clause-counted
+returns-clause-counted c = steps_are_counted
