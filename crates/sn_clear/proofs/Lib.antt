@@ -1,3 +1,4 @@
+pub mod ClearingLemmas
 pub mod ColumnLemmas
 pub mod CoverLemmas
 pub mod DiscLemmas

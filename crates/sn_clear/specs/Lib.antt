@@ -6,4 +6,5 @@ pub mod Runs
 pub mod StrokeLaws
 pub mod Strokes
 pub mod Thrift
+pub mod ThriftyStrokes
 pub mod Window

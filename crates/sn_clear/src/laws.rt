@@ -1,5 +1,6 @@
 //! Laws of the strokes of a step that clears its feature.
 ghost use Rattle.sn_clear.specs.StrokeLaws.{StrokesLieOnUsefulCentres, UsefulCentresHoldTargets, StrokesCoverByTheirCentres, DiscsAreThoseOfTheGrid, RowsAreMaximalRuns, MultiplesAndTheLastAreSelected, LastRowIsSelected, RowNumbersCountUsefulRows, RowPlacesCountSelectedRows, DirectionsAlternate, ColumnsCoverOpenTargets, HeldByCentres, StrokesAreThrifty, OneListIsThrifty};
+ghost use Rattle.sn_clear.specs.ThriftyStrokes.{ClearingStrokesAreThrifty};
 
 /// Laws of where strokes lie.
 pub fn places()
@@ -29,4 +30,9 @@ pub fn thrift()
     ensures strokes { StrokesAreThrifty }
     ensures columns { ColumnsCoverOpenTargets }
     ensures one_list { OneListIsThrifty }
+{}
+
+/// A law of the strokes of a step on its grid.
+pub fn clearing()
+    ensures { ClearingStrokesAreThrifty }
 {}

@@ -23,16 +23,16 @@ use Rattle.sn_open.specs.PlaneLaws.{WindowHasDiscs}
 use Rattle.sn_open.specs.Region.{IsDrilledAtCentre, IsFollowed, IsOpening}
 use Rattle.sn_open.specs.declared.stroke.Stroke.{Stroke}
 use Rattle.sn_fit.specs.Fit.{strokes_of_trail, strokes_at_centre, AreDrillStrokes}
-use Rattle.sn_clear.specs.Strokes.{field_of, row_step, runs_of}
+use Rattle.sn_clear.specs.ThriftyStrokes.{AreThriftyStrokes, ClearingStrokesAreThrifty}
 use Rattle.sn_link.specs.declared.moves.Move.{Move}
 use Rattle.sn_link.specs.Layers.{IsClearing, IsFreeWay, AreLayers, AreStepLayers}
 use Rattle.sn_link.specs.Plan.{IsHighest}
-use Rattle.sn_link.specs.ClearingLaws.{ClearingStrokesAreThrifty}
+use Rattle.sn_link.specs.ClearingLaws.{ClearingStepsAreThrifty}
 use Rattle.sn_link.specs.SafeLaws.{IsPlanned, PlannedMovesAreSafe, PlannedMovesEndAbove, PlannedMovesCutTheTargets, PlannedMovesAreStraight}
 use Rattle.sn_link.proofs.ByWayLemmas.{layers_by, reached_by, strokes_by}
 use Rattle.sn_link.proofs.LayerLemmas.{IsGoodRest, AreFree, AreShallow, AreLayered, NearAny}
 use Rattle.sn_link.proofs.StepLemmas.{AreSound, TargetsAreCut, all_free, along_listed, layer_at_floor, layered, step_is_kept}
-use Rattle.sn_link.proofs.StrokeLemmas.{strokes_are_free, runs_hold, runs_are_thrifty, target_along}
+use Rattle.sn_link.proofs.StrokeLemmas.{strokes_are_free, pitch_rule, one, held, target_along}
 use Rattle.sn_link.proofs.TrailLemmas.{trail_is_free, trail_is_followed}
 
 -- Heights.
@@ -174,14 +174,15 @@ planned_moves_cut_the_targets discs job step passes tip moves p = (kept discs jo
 pub planned_moves_are_straight : WindowHasDiscs → PlannedMovesAreStraight
 planned_moves_are_straight discs job step passes tip moves p = (kept discs job step passes tip moves p).straight
 
-pub strokes_of_clearing_are_thrifty : WindowHasDiscs → ClearingStrokesAreThrifty
-strokes_of_clearing_are_thrifty discs job step strokes rule executed clears clearing = record {
+pub clearing_steps_are_thrifty : WindowHasDiscs → ClearingStrokesAreThrifty → ClearingStepsAreThrifty
+clearing_steps_are_thrifty discs thrift job step strokes rule executed clears clearing = record {
   centres = clearing.centres;
   targets = clearing.targets;
   are_centres = clearing.are_centres;
   are_targets = clearing.are_targets;
-  runs = runs_of (field_of clearing.centres.grid step.body.d clearing.centres clearing.targets) (row_step step clearing.centres.grid.pitch) clearing.targets;
-  strokes_are = clearing.strokes_are;
-  thrifty = runs_are_thrifty job step clearing.centres clearing.targets rule clearing.are_centres clearing.are_targets discs executed clears;
-  hold = runs_hold job step clearing.centres clearing.targets rule clearing.are_centres clearing.are_targets;
+  thrifty = subst (AreThriftyStrokes step clearing.centres.grid clearing.centres clearing.targets) (sym clearing.strokes_are)
+      (thrift step clearing.centres.grid clearing.centres clearing.targets
+      (pitch_rule job step clearing.centres clearing.targets rule clearing.are_centres clearing.are_targets) refl
+      (one job step clearing.centres clearing.targets rule clearing.are_centres clearing.are_targets)
+      (held job step clearing.centres clearing.targets rule clearing.are_centres clearing.are_targets discs executed clears));
 }

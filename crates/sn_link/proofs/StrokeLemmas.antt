@@ -19,19 +19,16 @@ use Rattle.sn_open.specs.declared.stroke.Stroke.{Stroke}
 use Rattle.sn_open.specs.PlaneLaws.{WindowHasDiscs}
 use Rattle.sn_clear.specs.Window.{columns, rows, node_at}
 use Rattle.sn_clear.specs.Field.{Field, spot_of}
-use Rattle.sn_clear.specs.declared.spot.Run.{Run}
-use Rattle.sn_clear.specs.declared.spot.Spot.{Spot}
-use Rattle.sn_clear.specs.Columns.{IsCentreOf, is_covered}
+use Rattle.sn_clear.specs.Columns.{is_covered}
 use Rattle.sn_clear.specs.Strokes.{clearing_strokes, field_of, row_step, runs_of, stroke_of}
 use Rattle.sn_clear.specs.StrokeLaws.{IsUsefulRun}
-use Rattle.sn_clear.specs.Thrift.{AreThrifty, IsOpen}
+use Rattle.sn_clear.specs.Thrift.{IsOpen}
 use Rattle.sn_clear.proofs.LieLemmas.{strokes_are_useful}
 use Rattle.sn_clear.proofs.SurfaceLaws.{useful_hold_targets, discs_of_grid, held_by_centres}
 use Rattle.sn_clear.proofs.ThriftColumns.{strokes_are_thrifty}
 use Rattle.sn_clear.proofs.CoverLemmas.{covers_is, covered_is}
 use Rattle.sn_clear.proofs.ReachLemmas.{number_below, spot_of_number, some_pitch}
 use Rattle.sn_clear.proofs.WindowLemmas.{has_mark, in_window_at, at_window, column_of, row_of}
-use Rattle.sn_link.specs.ClearingLaws.{HoldsTarget}
 use Rattle.sn_link.specs.Layers.{IsFreeWay, AreTargets}
 use Rattle.sn_link.proofs.RunLemmas.{point, IsFromTo, centre_near, near_centre}
 
@@ -101,13 +98,13 @@ module _ (job : Job) (step : StepJob) (centres targets : Plane) (rule : IsJob jo
   pitch_is : g.pitch ≡ job.pitch
   pitch_is = are_centres.grid.pitch
 
-  pitch_rule : IsPitch g.pitch
+  pub pitch_rule : IsPitch g.pitch
   pitch_rule = subst IsPitch (sym pitch_is) rule.pitch
 
   some : 0 < g.pitch
   some = some_pitch g.pitch pitch_rule
 
-  one : targets.grid ≡ g
+  pub one : targets.grid ≡ g
   one = one_grid targets.grid g job are_targets.grid are_centres.grid
 
   -- the whole tool is over allowed nodes at a free centre of the window
@@ -142,24 +139,6 @@ module _ (job : Job) (step : StepJob) (centres targets : Plane) (rule : IsJob jo
       within : (a b k n : ℕ) → a < n → b < n → k ≤ max a b → k < n
       within a b k n h i j = omega arith
 
-  -- each node of a run is a free centre whose disc holds a target
-  pub runs_hold : (run : Run) → Contains (runs_of field every targets) run → (c : Spot) → IsCentreOf run c
-      → HoldsTarget job step targets (node_at g c.column c.row)
-  runs_hold run inside c on =
-      let useful = All-contains (IsUsefulRun field) (runs_of field every targets) run (strokes_are_useful field every targets.marks) inside in
-      let below_c = between run.from.column run.to.column c.column (columns g) useful.from.column useful.to.column on.column_to in
-      let below_r = between run.from.row run.to.row c.row (rows g) useful.from.row useful.to.row on.row_to in
-      let (has, (t, target, disc)) = (useful_hold_targets g d centres targets c.column c.row pitch_rule refl one below_c below_r).0 (useful.centres c on) in
-      record {
-        free = (are_centres.nodes (node_at g c.column c.row) (in_window_at g c.column c.row below_c below_r)).0 has;
-        target = t;
-        is_target = target;
-        near = subst (λ (p : ℕ). InDisc p d (place p (node_at g c.column c.row)) t) pitch_is disc;
-      }
-    where
-      between : (a b k n : ℕ) → a < n → b < n → k ≤ max a b → k < n
-      between a b k n h i j = omega arith
-
   -- without a target there is no stroke
   pub no_strokes : ((n : Node) → ¬ Has targets n) → clearing_strokes step g centres targets ≡ []
   no_strokes none =
@@ -179,7 +158,7 @@ module _ (job : Job) (step : StepJob) (centres targets : Plane) (rule : IsJob jo
       | way.Drill ↦ IsDrilledAtCentre job step step.outline.shape n
     ]
 
-    held : (t : Node) → Has targets t → (c : Node) × Has centres c × InDisc g.pitch d (place g.pitch c) t
+    pub held : (t : Node) → Has targets t → (c : Node) × Has centres c × InDisc g.pitch d (place g.pitch c) t
     held t has =
         let opened = ((are_targets.nodes t).0 has).1 in
         let (c, free, disc) = subst (λ (w : Way). IsReachedBy w t) clears opened.reached in
@@ -189,11 +168,8 @@ module _ (job : Job) (step : StepJob) (centres targets : Plane) (rule : IsJob jo
     abbrev strokes : List Stroke
     strokes = clearing_strokes step g centres targets
 
-    pub runs_are_thrifty : AreThrifty field every targets.marks (runs_of field every targets)
-    runs_are_thrifty = strokes_are_thrifty field every targets.marks (held_by_centres g d centres targets pitch_rule refl one held)
-
     none_is_open : (k : ℕ) → ¬ IsOpen field targets.marks (runs_of field every targets) k
-    none_is_open = runs_are_thrifty.none_open
+    none_is_open = (strokes_are_thrifty field every targets.marks (held_by_centres g d centres targets pitch_rule refl one held)).none_open
 
     covered_at : (c r : ℕ) → c < columns g → r < rows g → Has targets (node_at g c r)
         → is_covered field (runs_of field every targets) (spot_of field (r * columns g + c)) ≡ true

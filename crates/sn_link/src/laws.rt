@@ -1,11 +1,12 @@
 //! Laws of the definitions. Each function's contract states laws, and the function does nothing.
-ghost use Rattle.sn_link.specs.ClearingLaws.{ClearingStrokesAreThrifty};
+ghost use Rattle.sn_link.specs.ClearingLaws.{ClearingStepsAreThrifty};
 ghost use Rattle.sn_link.specs.CountLaws.{EachStepWithMovesIsCounted};
 ghost use Rattle.sn_link.specs.MovesLaws.{PlungesGoDownAndUp, MovesThatStayAreLeftOut};
 ghost use Rattle.sn_link.specs.PlanLaws.{TipsAreKept, OnlyFeedsOfMovesCut, OneHighest, OnePlan, NothingToCutNoMoves, RepeatedStepsRest, StepsBeginAtTheTip, DrillsPlunge};
 ghost use Rattle.sn_link.specs.PlanLaws.{LayersAreAnAxialDepthApart, LayersComeToTheFloor, OneListOfLayers, LinksAreFedOrLifted, LayersGoAlongTheirStrokes, LaterLayersBeginWhereTheLastCut, TrailsAreFollowedInLayers};
 ghost use Rattle.sn_link.specs.SafeLaws.{PlannedMovesAreSafe, PlannedMovesEndAbove, PlannedMovesCutTheTargets, PlannedMovesAreStraight};
 
+use sn_clear::laws::clearing;
 use sn_open::laws::outside;
 
 /// Laws of moves.
@@ -44,7 +45,8 @@ pub fn planned_moves()
     ensures end_above { PlannedMovesEndAbove }
     ensures cut { PlannedMovesCutTheTargets }
     ensures straight { PlannedMovesAreStraight }
-    ensures thrifty { ClearingStrokesAreThrifty }
+    ensures thrifty { ClearingStepsAreThrifty }
 {
+    clearing();
     outside();
 }

@@ -1,4 +1,4 @@
-use Rattle.sn_link.proofs.SafeLemmas.{planned_moves_are_safe, planned_moves_end_above, planned_moves_cut_the_targets, planned_moves_are_straight, strokes_of_clearing_are_thrifty}
+use Rattle.sn_link.proofs.SafeLemmas.{planned_moves_are_safe, planned_moves_end_above, planned_moves_cut_the_targets, planned_moves_are_straight, clearing_steps_are_thrifty}
 use Rattle.sn_link.proofs.laws.planned_moves.Goals as goal
 
 pub returns-clause-safe : goal.returns-clause-safe
@@ -14,4 +14,4 @@ pub returns-clause-straight : goal.returns-clause-straight
 returns-clause-straight c = planned_moves_are_straight c.outside.ensures.discs
 
 pub returns-clause-thrifty : goal.returns-clause-thrifty
-returns-clause-thrifty c = strokes_of_clearing_are_thrifty c.outside.ensures.discs
+returns-clause-thrifty c = clearing_steps_are_thrifty c.outside.ensures.discs c.clearing.ensures
