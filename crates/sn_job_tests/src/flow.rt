@@ -1,11 +1,12 @@
 //! Jobs of the sample part with one hole, and of parts that differ from it in a few instances.
 
-use sn_flow::{JobFault, Opts, Words, job, values};
+use sn_flow::{JobFault, job};
 use sn_frame::FrameFault;
 use sn_geom::Pt3;
 use sn_outline::{Job, Shape, StepJob};
 use sn_part_tests::fixtures::{Change, changed_text, checked_of};
 use sn_refs::Checked;
+use sn_words::{Opts, Words, values};
 use std::alloc::Global;
 use std::test::Fail;
 
