@@ -43,7 +43,7 @@ pub const MOST_TOOL: u32 = 99_999;
 /// The height above remaining material at which an approach changes from rapid to feed.
 pub const GAP: u32 = 10_000;
 
-/// The axial depth of a layer where the part gives none: no cut is so deep.
+/// The axial depth of a layer where the part gives none: the height of the highest raw box, so no cut is deeper.
 pub const NO_DEPTH: u32 = 40_000_000;
 
 /// The decimals of a length in millimetres, as it is printed: one for each digit of `PER_MM` after the first.

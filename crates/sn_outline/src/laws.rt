@@ -1,5 +1,6 @@
 //! Laws of the definitions of outlines. Each function's contract states laws, and the function does nothing.
 ghost use Rattle.sn_outline.specs.JobRuleLaws.{JobWithoutSteps, SameStepsMakeAJob, ToolsAreListed, TipNearTheFloor};
+ghost use Rattle.sn_outline.specs.LimitLaws.{PitchesHaveLimits, ToolsHaveLimits, PointsHaveLimits, RatesHaveLimits, AllowancesHaveLimits, DepthsHaveLimits};
 ghost use Rattle.sn_outline.specs.OutlineLaws.{RectangleHasItsBorder, TrailIsItsSegments, CircleIsItsTrail, MovingTogetherChangesNothing};
 ghost use Rattle.sn_outline.specs.PolygonLaws.{CrossesRightSomewhere, CrossesEachHeightEvenly, LeftRayTellsTheSame, AnyPointIsFirst, EitherDirection, SpikeEnclosesNothing, RectangleIsItsCorners};
 
@@ -40,4 +41,14 @@ pub fn jobs()
     ensures same_steps { SameStepsMakeAJob }
     ensures tools { ToolsAreListed }
     ensures tip { TipNearTheFloor }
+{}
+
+/// What is still within the limits of steps and of jobs, and what is not.
+pub fn limits()
+    ensures pitches { PitchesHaveLimits }
+    ensures tools { ToolsHaveLimits }
+    ensures points { PointsHaveLimits }
+    ensures rates { RatesHaveLimits }
+    ensures allowances { AllowancesHaveLimits }
+    ensures depths { DepthsHaveLimits }
 {}

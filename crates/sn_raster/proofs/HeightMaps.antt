@@ -14,7 +14,8 @@ use Rattle.sn_geom.specs.declared.units.Cell.{Cell}
 use Rattle.sn_geom.specs.Length.{IsLength}
 use Rattle.sn_raster.specs.Grid.{Grid, Node, IsGrid, IsGridOf, IsInWindow, IsInRaw, places}
 use Rattle.sn_raster.specs.Plane.{mark_of}
-use Rattle.sn_raster.specs.Heights.{node_of, IsRawSlab, IsMaterial, HeightMap, IsHeightMap, IsHeight, HasCell, height_of}
+use Rattle.sn_raster.specs.Heights.{node_of, IsMaterial, HeightMap, IsHeightMap, IsHeight, HasCell, height_of}
+use Rattle.sn_raster.specs.RawSlab.{IsRawSlab}
 use Rattle.sn_raster.proofs.Axis.{kept}
 use Rattle.sn_raster.proofs.Marks.{mark_below, one_node, in_own_window}
 

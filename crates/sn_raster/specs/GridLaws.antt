@@ -1,7 +1,6 @@
 -- Laws of grids (this project's own).
 use Rattle.std.specs.Prelude.{◌≡◌, ◌↔◌, ℕ, ◌*◌, ◌≤◌, ◌<◌, ℤ, pos, ◌+ℤ◌, ◌-ℤ◌, ◌*ℤ◌, ◌≤ℤ◌, ◌<ℤ◌, List}
 use Rattle.std.specs.List.{All}
-use Rattle.sn_geom.specs.declared.limits.TheConstants.{MOST_NODES}
 use Rattle.sn_outline.specs.declared.job.StepJob.{StepJob}
 use Rattle.sn_outline.specs.Job.{Job}
 use Rattle.sn_raster.specs.Grid.{Grid, Node, place, places, first_place, last_place, greatest_margin, IsRawNode, IsInWindow, IsInRaw, IsGridOf, IsPoint, FitsGrid}
@@ -42,9 +41,9 @@ WindowIsGrown =
 abbrev pub RawNodesAreTheJobs : Type 0
 RawNodesAreTheJobs = (g : Grid) (job : Job) (n : Node) → 0 < job.pitch → IsGridOf g job → IsInRaw g n ↔ IsRawNode job n
 
--- a window fits where it has not too many nodes, and each is at a point in the range
+-- a window fits where it has at most 4,000,000 nodes, and each is at a point in the range
 abbrev pub FitsByItsNodes : Type 0
 FitsByItsNodes =
     (g : Grid) (job : Job) → IsGridOf g job
     → FitsGrid job
-    ↔ ((places g.i0 g.i1 * places g.j0 g.j1 ≤ MOST_NODES) × ((n : Node) → IsInWindow g n → IsPoint (place g.pitch n)))
+    ↔ ((places g.i0 g.i1 * places g.j0 g.j1 ≤ 4000000) × ((n : Node) → IsInWindow g n → IsPoint (place g.pitch n)))

@@ -6,7 +6,7 @@ use Rattle.sn_geom.specs.declared.units.Body.{Body}
 use Rattle.sn_geom.specs.declared.units.Cell.{Cell}
 use Rattle.sn_geom.specs.Sweep.{Cut, Touch}
 use Rattle.sn_outline.specs.Job.{Job}
-use Rattle.sn_raster.specs.Grid.{Grid, Node, IsGrid, IsGridOf, IsInWindow, IsInRaw, IsRawNode, places}
+use Rattle.sn_raster.specs.Grid.{Grid, Node, IsGrid, IsGridOf, IsInWindow, IsRawNode, places}
 use Rattle.sn_raster.specs.Plane.{mark_of}
 
 -- Cells.
@@ -57,12 +57,6 @@ pub record HasCell (map : HeightMap) (c : Cell) : Type 0 where
   pub in_window : IsInWindow map.grid (node_of c)
   pub above : map.grid.bottom ≤ℤ c.z
   pub below : c.z <ℤ height_of map (node_of c)
-
--- the cells of the raw box, by the grid of its job
-pub record IsRawSlab (g : Grid) (c : Cell) : Type 0 where
-  pub raw : IsInRaw g (node_of c)
-  pub above : g.bottom ≤ℤ c.z
-  pub below : c.z <ℤ g.top
 
 -- a height from the raw bottom to the raw top
 pub record IsHeight (g : Grid) (height : ℤ) : Type 0 where

@@ -6,6 +6,7 @@ pub mod MarksBeside
 pub mod Neighbours
 pub mod Plane
 pub mod PlaneLaws
+pub mod RawSlab
 pub mod Reach
 pub mod ReachLaws
 pub mod RowTurns

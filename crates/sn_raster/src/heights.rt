@@ -5,7 +5,8 @@ ghost use Rattle.sn_outline.specs.Job.{Job};
 ghost use Rattle.sn_geom.specs.Sweep.{IsHorizontalOrVertical, plan};
 ghost use Rattle.sn_raster.specs.Grid.{Node, IsGridOf, IsInWindow, IsInRaw};
 ghost use Rattle.sn_raster.specs.Plane.{Has};
-ghost use Rattle.sn_raster.specs.Heights.{node_of, Pass, IsTouchedCell, IsFirst, IsRawSlab, HasCell, StandsFor, IsCutBy, IsHeight, height_of, IsTop, IsTopOfCells, IsCount, cells_left};
+ghost use Rattle.sn_raster.specs.Heights.{node_of, Pass, IsTouchedCell, IsFirst, HasCell, StandsFor, IsCutBy, IsHeight, height_of, IsTop, IsTopOfCells, IsCount, cells_left};
+ghost use Rattle.sn_raster.specs.RawSlab.{IsRawSlab};
 
 use crate::bits::{Bits, mark, nodes_of};
 use crate::grid::Grid;

@@ -2,7 +2,8 @@ use Rattle.std.proofs.Common.{◌≡◌, ℤ, pos, ◌+ℤ◌, ◌<ℤ◌, w32, 
 use Rattle.std.proofs.lemmas.Int.{ints, to_z-of_z}
 use Rattle.sn_geom.proofs.Ring.{sums}
 use Rattle.sn_geom.specs.Length.{IsLength}
-use Rattle.sn_raster.specs.Heights.{IsRawSlab, node_of}
+use Rattle.sn_raster.specs.Heights.{node_of}
+use Rattle.sn_raster.specs.RawSlab.{IsRawSlab}
 use Rattle.sn_raster.proofs.Axis.{kept}
 use Rattle.sn_raster.proofs.Rows.{in_window, end_is, next_is, one_later, lt_from, passed_end}
 use Rattle.sn_raster.proofs.HeightMaps.{node}

@@ -1,5 +1,5 @@
 use Rattle.std.proofs.Common.{◌≤ℤ◌}
-use Rattle.sn_raster.specs.Heights.{IsRawSlab}
+use Rattle.sn_raster.specs.RawSlab.{IsRawSlab}
 use Rattle.sn_raster.proofs.HeightRows.{IsRowPassed}
 use Rattle.sn_raster.proofs.heights.raise_row.Given as goal
 

@@ -1,5 +1,5 @@
 use Rattle.std.proofs.Common.{◌≤ℤ◌}
-use Rattle.sn_raster.specs.Heights.{IsRawSlab}
+use Rattle.sn_raster.specs.RawSlab.{IsRawSlab}
 use Rattle.sn_raster.proofs.HeightRows.{AreRowsPassed}
 use Rattle.sn_raster.proofs.heights.raise_rows.Given as goal
 
