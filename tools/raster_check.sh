@@ -18,12 +18,12 @@ for crate in sn_geom sn_outline sn_raster; do
   grep "^$crate:" crates.txt >> "$folder/crates.txt"
 done
 echo "raster_check: sn_raster sn_outline sn_geom" >> "$folder/crates.txt"
-# whether a node is in the window is shown as in the tests of the crate, which stand in sn_tests
+# whether a node is in the window is shown as in the tests of the crate, which stand in sn_geometry_tests
 proofs=$folder/crates/raster_check/proofs
 for function in is_node has; do
   mkdir -p "$proofs/$function"
-  sed "s/sn_tests\.proofs\.raster\.$function\./raster_check.proofs.$function./" \
-    "crates/sn_tests/proofs/raster/$function/Answers.antt" > "$proofs/$function/Answers.antt"
+  sed "s/sn_geometry_tests\.proofs\.raster\.$function\./raster_check.proofs.$function./" \
+    "crates/sn_geometry_tests/proofs/raster/$function/Answers.antt" > "$proofs/$function/Answers.antt"
 done
 mkdir -p "$proofs/height"
 sed 's/get-requires/at-requires/g; s/proofs\.has\./proofs.height./' "$proofs/has/Answers.antt" > "$proofs/height/Answers.antt"

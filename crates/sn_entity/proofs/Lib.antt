@@ -1,3 +1,4 @@
+mod BorderLemmas
 mod FaultLemmas
 mod GivenAt
 mod GivenForms

@@ -5,6 +5,7 @@ use Rattle.std.proofs.lemmas.Int.{ints}
 use mir.Val.{SFits}
 use mir.Syntax.{w32}
 use Rattle.sn_geom.specs.Decimal.{Decimal, IsNumber, IsNumberText, IsPastLimits}
+use Rattle.sn_geom.specs.declared.limits.TheConstants.{MOST_VALUE}
 use Rattle.sn_entity.specs.Measure.{Measure, IsSmall, IsWithin, Measures}
 
 -- what a text gives is a number's text
@@ -18,18 +19,18 @@ size-kept : (signed : Bool) (rounded : ℤ) → unsigned_abs (cond signed rounde
 size-kept true rounded = refl
 size-kept false rounded = refl
 
-size-within : (least greatest z : ℤ) → unsigned_abs least ≤ 2000000000 → unsigned_abs greatest ≤ 2000000000 → least ≤ℤ z → z ≤ℤ greatest → unsigned_abs z ≤ 2000000000
-size-within least greatest z a b low high = omega (arith, ints)
+size-within : (most : ℕ) (least greatest z : ℤ) → unsigned_abs least ≤ most → unsigned_abs greatest ≤ most → least ≤ℤ z → z ≤ℤ greatest → unsigned_abs z ≤ most
+size-within most least greatest z a b low high = omega (arith, ints)
 
 -- a value within the limits was small when it was rounded
-pub size-rounded : (m : Measure) (text : List ℕ) (z : ℤ) → IsSmall m → (h : Measures m text z) → unsigned_abs h.rounded ≤ 2000000000
+pub size-rounded : (m : Measure) (text : List ℕ) (z : ℤ) → IsSmall m → (h : Measures m text z) → unsigned_abs h.rounded ≤ MOST_VALUE
 size-rounded m text z small h =
     let same = ap unsigned_abs h.value ∙ size-kept m.signed h.rounded in
-    let within = size-within m.least m.greatest z small.least small.greatest h.within.low h.within.high in
+    let within = size-within MOST_VALUE m.least m.greatest z small.least small.greatest h.within.low h.within.high in
     omega arith
 
 -- such a number is an i32
-pub SFits-from_size : (z : ℤ) → unsigned_abs z ≤ 2000000000 → SFits w32 z
+pub SFits-from_size : (z : ℤ) → unsigned_abs z ≤ MOST_VALUE → SFits w32 z
 SFits-from_size z h = omega (arith, ints)
 
 -- what is found out of the limits is no value

@@ -1,3 +1,4 @@
+pub mod Borders
 pub mod Form
 pub mod Given
 pub mod Limits

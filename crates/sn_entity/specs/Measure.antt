@@ -2,8 +2,8 @@
 -- millimetres, feeds in metres per second and speeds in revolutions per second.
 use Rattle.std.specs.Prelude.{◌≡◌, ℕ, ◌≤◌, ℤ, pos, neg_ℤ, ◌≤ℤ◌, unsigned_abs, Bool, true, false, cond, List}
 use Rattle.sn_geom.specs.Decimal.{Decimal, IsNumber, ScalesTo}
-use Rattle.sn_geom.specs.declared.limits.TheConstants.{PER_MM, REACH, LEAST_DIAMETER, MOST_DIAMETER, MOST_EDGE, FEED_SCALE, SPEED_SCALE, MOST_RATE}
-use Rattle.sn_entity.specs.declared.measure.TheConstants.{MOST_NUMBER, MOST_RATIO}
+use Rattle.sn_geom.specs.declared.limits.TheConstants.{PER_MM, REACH, LEAST_DIAMETER, MOST_DIAMETER, MOST_EDGE, FEED_SCALE, SPEED_SCALE, MOST_RATE, PER_ONE, MOST_VALUE}
+use Rattle.sn_entity.specs.declared.measure.TheConstants.{MOST_RATIO}
 
 -- how a number is taken: times a factor, rounded, its sign dropped or not, from the least to the greatest value
 pub record Measure : Type 0 where
@@ -34,16 +34,16 @@ abbrev pub speed : Measure
 speed = record { factor = SPEED_SCALE; signed = false; least = pos 1; greatest = pos MOST_RATE }
 
 abbrev pub thousandths : Measure
-thousandths = measure 1000 (neg_ℤ (pos MOST_NUMBER)) (pos MOST_NUMBER)
+thousandths = measure PER_ONE (neg_ℤ (pos MOST_VALUE)) (pos MOST_VALUE)
 
 abbrev pub ratio : Measure
-ratio = measure 1000 (neg_ℤ (pos MOST_RATIO)) (pos MOST_RATIO)
+ratio = measure PER_ONE (neg_ℤ (pos MOST_RATIO)) (pos MOST_RATIO)
 
--- what is small enough to be read exactly: the condition of `Dec::scaled`
+-- no factor is above that of feeds, and no limit is wider than that of values
 pub record IsSmall (m : Measure) : Type 0 where
-  pub factor : m.factor ≤ 60000
-  pub least : unsigned_abs m.least ≤ 2000000000
-  pub greatest : unsigned_abs m.greatest ≤ 2000000000
+  pub factor : m.factor ≤ FEED_SCALE
+  pub least : unsigned_abs m.least ≤ MOST_VALUE
+  pub greatest : unsigned_abs m.greatest ≤ MOST_VALUE
 
 -- within the limits
 pub record IsWithin (m : Measure) (z : ℤ) : Type 0 where

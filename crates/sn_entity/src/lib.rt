@@ -17,7 +17,7 @@ mod value;
 
 pub use fault::EntFault;
 pub use laws::{given_where_wanted, in_group_or_not, one_row, shows_shape};
-pub use limits::shows_within_limits;
+pub use limits::{kinds_have_borders, shows_within_limits};
 pub use row::{Group, Kind, Read, Row, RowId};
 pub use shown::{fields, one_showing, row_of};
 pub use table::{Reads, reads_of};

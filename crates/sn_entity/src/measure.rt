@@ -6,19 +6,15 @@ ghost use Rattle.sn_entity.specs.Refusal.{IsRefused};
 
 use crate::refusal::Refusal;
 use sn_geom::{
-    Dec, DecFault, FEED_SCALE, LEAST_DIAMETER, MOST_DIAMETER, MOST_EDGE, MOST_RATE, PER_MM, REACH,
-    SPEED_SCALE, read_dec,
+    Dec, DecFault, FEED_SCALE, LEAST_DIAMETER, MOST_DIAMETER, MOST_EDGE, MOST_RATE, MOST_VALUE,
+    PER_MM, PER_ONE, REACH, SPEED_SCALE, read_dec,
 };
 use std::marker::Model;
 
-/// The size up to which a rounded number is read. Each limit of a number is at most that.
-const WIDEST: u32 = 2_000_000_000;
-
-/// The greatest size of a number, in thousandths.
-const MOST_NUMBER: u32 = 2_000_000_000;
-
 /// The greatest size of a ratio of a direction, in thousandths.
-const MOST_RATIO: u32 = 2_000_000;
+const MOST_RATIO: u32 = 2_000 * PER_ONE;
+
+const _: () = prove!(MOST_RATIO == 2_000_000);
 
 /// How a number is taken: times a factor, rounded, its sign kept or not, from the least to the greatest value.
 #[derive(Drop)]
@@ -40,7 +36,7 @@ impl Model for Measure {
 impl Measure {
     /// The value that a rounded number gives.
     fn value_of(&self, rounded: i32) -> i32
-        requires { unsigned_abs rounded ≤ WIDEST }
+        requires { unsigned_abs rounded ≤ MOST_VALUE }
         ensures { result ≡ cond self.now.signed rounded (pos (unsigned_abs rounded)) }
     {
         if self.signed { rounded } else { rounded.abs() }
@@ -60,7 +56,7 @@ impl Measure {
         ensures refused { IfErr result (λ why. IsRefused why (IsNumberText text.now) (Measures self.now text.now)) }
     {
         let decimal = decimal_of(text)?;
-        let Ok(rounded) = decimal.scaled(self.factor, WIDEST) else {
+        let Ok(rounded) = decimal.scaled(self.factor, MOST_VALUE) else {
             return Err(Refusal::Range);
         };
         let value = self.value_of(rounded);
@@ -167,16 +163,16 @@ pub fn speed() -> Measure
     }
 }
 
-/// A number, in thousandths.
+/// The value of a variable or a constant, in thousandths.
 pub fn thousandths() -> Measure
     ensures { result ≡ thousandths }
 {
-    signed_measure(1_000, -(MOST_NUMBER as i32), MOST_NUMBER as i32)
+    signed_measure(PER_ONE, -(MOST_VALUE as i32), MOST_VALUE as i32)
 }
 
 /// A ratio of a direction, in thousandths.
 pub fn ratio() -> Measure
     ensures { result ≡ ratio }
 {
-    signed_measure(1_000, -(MOST_RATIO as i32), MOST_RATIO as i32)
+    signed_measure(PER_ONE, -(MOST_RATIO as i32), MOST_RATIO as i32)
 }

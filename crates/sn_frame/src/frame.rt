@@ -15,7 +15,7 @@ pub enum FrameFault {
     OutOfRange(u32),
 }
 
-/// A frame: a signed rotation followed by a shift, in micrometres.
+/// A frame: a signed rotation followed by a shift, in tenths of a micrometre.
 ///
 /// There are 24 signed rotations. Each maps every coordinate axis to a coordinate axis, one way or the other, and keeps
 /// the right-hand rule.
@@ -121,12 +121,16 @@ impl Frame {
     /// Whether the frame maps +Z to +Z.
     #[tactic(auto, unfolding(crate::specs::Frame::is_upright))]
     pub fn is_upright(&self) -> bool
-        ensures upright { result ≡ is_upright self.now }
-
-        // The rule of the type, for callers.
-        ensures rotation { IsSignedRotation self.now.matrix }
+        ensures { result ≡ is_upright self.now }
     {
         self.axis == Direction::PLUS_Z
+    }
+
+    /// What every frame keeps: it turns by a signed rotation.
+    pub fn rule(&self)
+        ensures { IsSignedRotation self.now.matrix }
+    {
+        let _axis = self.axis;
     }
 
     /// The image of +Y.

@@ -8,7 +8,7 @@ ghost use Rattle.sn_frame.specs.Place.{IsWithin, IsMoved, point_of};
 use crate::direction::{Axis, Direction, Sign};
 use sn_geom::{Pt3, Um};
 
-/// A place in space, in micrometres, that may lie outside the range of coordinates.
+/// A place in space, in tenths of a micrometre, that may lie outside the range of coordinates.
 #[derive(Clone, Copy)]
 pub(crate) struct Place {
     x: i32,

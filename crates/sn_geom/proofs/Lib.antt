@@ -14,5 +14,6 @@ pub mod NumberText
 pub mod Powers
 pub mod Ring
 pub mod RoundingLaws
+pub mod RuleLemmas
 pub mod Scaling
 pub mod Touching

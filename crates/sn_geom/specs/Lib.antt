@@ -15,6 +15,7 @@ pub mod MeaningLaws
 pub mod NumberPieces
 pub mod Offset
 pub mod Rounding
+pub mod RuleExamples
 pub mod Sweep
 pub mod SweepLaws
 pub mod Tip

@@ -3,6 +3,7 @@ ghost use Rattle.sn_geom.specs.SweepLaws.{DiscByRows, DiscHasItsCentre, NearOneP
 
 pub mod machine;
 pub mod meaning;
+pub mod rules;
 
 /// Laws of discs.
 pub fn discs()

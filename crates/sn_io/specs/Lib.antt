@@ -9,3 +9,6 @@ pub mod MemFiles
 pub mod MemSink
 pub mod OutSink
 pub mod Sink
+pub mod SteadyFiles
+pub mod SteadyLaws
+pub mod SteadySink

@@ -2,6 +2,7 @@
 ghost use Rattle.sn_io.specs.CountLaws.{RisesIsMore};
 ghost use Rattle.sn_io.specs.CountSinkLaws.{CountingNeverStops, CountingAddsTheLength};
 ghost use Rattle.sn_io.specs.FilesLaws.{OpeningsGiveInTurn};
+ghost use Rattle.sn_io.specs.SteadyLaws.{SteadyFilesGiveInTurn, SteadyFilesNeverFail, SteadySinkNeverStops};
 
 /// Laws of counts.
 pub fn counts()
@@ -17,4 +18,11 @@ pub fn counting()
 /// Laws of files.
 pub fn files()
     ensures openings { OpeningsGiveInTurn }
+{}
+
+/// Laws of files and of a sink that never fail.
+pub fn steady()
+    ensures files_never_fail { SteadyFilesNeverFail }
+    ensures files_in_turn { SteadyFilesGiveInTurn }
+    ensures sink_never_stops { SteadySinkNeverStops }
 {}

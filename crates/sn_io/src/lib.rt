@@ -4,6 +4,7 @@
 //! sinks in memory tell their content; the machine's files and outputs do not.
 #![tactic(auto)]
 
+mod bytes;
 mod calls;
 mod count_sink;
 mod disk_files;
@@ -13,6 +14,8 @@ mod mem_files;
 mod mem_sink;
 mod out_sink;
 mod sink;
+mod steady_files;
+mod steady_sink;
 
 pub use count_sink::CountSink;
 pub use disk_files::DiskFiles;
@@ -21,3 +24,5 @@ pub use mem_files::MemFiles;
 pub use mem_sink::MemSink;
 pub use out_sink::OutSink;
 pub use sink::{Sink, WriteFault, write_all};
+pub use steady_files::SteadyFiles;
+pub use steady_sink::SteadySink;

@@ -8,6 +8,7 @@ ghost use Rattle.sn_io.specs.Count.{count_after};
 ghost use Rattle.sn_io.specs.Files.{Opens, IsOpened, IsFault, Reads, Gives, GivesNothing};
 ghost use Rattle.sn_io.specs.MemFiles.{MemFilesState, mem_files_code, contents_of, files_state, left_after, IsNextListed, Adds};
 
+use crate::bytes::copy_front;
 use crate::calls::{count_up, is_listed};
 use crate::files::{Failed, Files};
 use sn_geom::Memory;
@@ -255,14 +256,4 @@ fn bytes_left(files: &[MemFile], opened: Opened) -> &[u8]
 {
     let file = &files[opened.index];
     &file.bytes[opened.given..]
-}
-
-/// Copies what there is room for to the start of the buffer, and answers how much that is.
-fn copy_front(from: &[u8], to: &mut [u8]) -> usize
-    ensures count { result ≡ min (length to.old) (length from.now) }
-    ensures front { to.new ≡ take result from.now ++ drop result to.old }
-{
-    let count = from.len().min(to.len());
-    to[..count].copy_from_slice(&from[..count]);
-    count
 }

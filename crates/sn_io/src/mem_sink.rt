@@ -5,6 +5,7 @@ ghost use Rattle.sn_io.specs.Count.{count_after, Rises};
 ghost use Rattle.sn_io.specs.Sink.{Takes};
 ghost use Rattle.sn_io.specs.MemSink.{MemSinkState, sink_state, IsNextListed};
 
+use crate::bytes::append;
 use crate::calls::{count_up, is_listed};
 use crate::files::Failed;
 use crate::sink::Sink;
@@ -106,15 +107,4 @@ impl Sink for MemSink {
         append(&mut self.held, &bytes[..count]);
         Ok(count)
     }
-}
-
-/// Puts bytes behind those that are there, where there is memory for them.
-fn append(held: &mut Vec<u8>, bytes: &[u8])
-    requires { length held.old.items + length bytes.now ≤ vec_capacity held.old }
-    ensures items { held.new.items ≡ held.old.items ++ bytes.now }
-    ensures capacity { vec_capacity held.old ≤ vec_capacity held.new }
-{
-    let Ok(()) = held.extend_from_slice(bytes) else {
-        unreachable!()
-    };
 }

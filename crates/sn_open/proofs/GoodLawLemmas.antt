@@ -19,7 +19,7 @@ use Rattle.sn_geom.specs.Acts.Act.{Rapid, Feed, End}
 use Rattle.sn_open.specs.Good.{IsCurrent, IsLeft, IsShallow, IsRightFeed, IsRight, IsRightRapid, AreGood}
 use Rattle.sn_geom.specs.LineText.{LineText}
 use Rattle.sn_geom.specs.Meaning.{AreBlocks}
-use Rattle.sn_open.specs.GoodLaws.{over, GoodRapidsAreClear, GoodFeedsStayAllowed, GoodProgramsMoveClear, GoodProgramsAreRead}
+use Rattle.sn_open.specs.GoodLaws.{over, CurrentStepIsMarked, GoodRapidsAreClear, GoodFeedsStayAllowed, GoodProgramsMoveClear, GoodProgramsAreRead}
 
 -- Good programs.
 
@@ -65,6 +65,29 @@ good_feeds_stay_allowed job before after from to feed speed tool step c own left
           not_both_lower from.z to.z c.z step.body.e step.axial shallow'.0 shallow'.1 deep)
           r.shallow,
     )
+
+-- The current step.
+
+at_length : (front back : List StepJob) (step : StepJob) → slice_get (front ++ step ∷ back) (length front) ≡ Some step
+at_length [] back step = refl
+at_length (s ∷ front) back step = at_length front back step
+
+split_at : (steps : List StepJob) (k : ℕ) (step : StepJob) → slice_get steps k ≡ Some step
+    → (front : List StepJob) × (back : List StepJob) × (steps ≡ front ++ step ∷ back) × (length front ≡ k)
+split_at [] k step is = absurd (cc)
+split_at (s ∷ steps) zero step is = ([], steps, (let same : s ≡ step = cc in ap (λ (t : StepJob). t ∷ steps) same), refl)
+split_at (s ∷ steps) (suc k) step is =
+    let (front, back, all, count) = split_at steps k step is in (s ∷ front, back, ap (λ (ts : List StepJob). s ∷ ts) all, ap suc count)
+
+pub current_step_is_marked : CurrentStepIsMarked
+current_step_is_marked job before step = (
+  λ (k, count, is). let (front, back, all, same) = split_at job.steps k step is in (front, back, all, omega (arith, count, same)),
+  λ (front, back, all, count). (
+    length front,
+    count,
+    subst (λ (steps : List StepJob). slice_get steps (length front) ≡ Some step) (sym all) (at_length front back step),
+  ),
+)
 
 never_ends : (blocks : List Block) (acts : List Act) → AreBlocks [] blocks → RunsTo start blocks acts → Contains acts End → ⊥
 never_ends [] acts says runs (k, below, is) = let h = ap length runs in omega arith

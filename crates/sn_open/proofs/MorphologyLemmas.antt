@@ -10,7 +10,8 @@ use Rattle.sn_open.specs.Window.{rows, IsMarked}
 use Rattle.sn_open.specs.Spread.{IsCovered}
 use Rattle.sn_open.proofs.WindowLemmas.{in_own_window}
 use Rattle.sn_open.proofs.WidthLemmas.{square_le}
-use Rattle.sn_open.specs.Morphology.{IsWithin, AreDiscWidths, IsClear, IsNearOne}
+use Rattle.sn_open.specs.Morphology.{HasDisc, IsNearOne}
+use Rattle.sn_open.specs.Widths.{IsWithin, AreDiscWidths}
 
 -- Distances of nodes.
 
@@ -88,7 +89,7 @@ abbrev IsInverse : Plane → Plane → Type 0
 IsInverse old new = (n : Node) → Has new n ↔ (IsInWindow old.grid n × (¬ Has old n))
 
 pub eroded : (from mid to : Plane) (d : ℕ) (widths : List ℕ) → AreDiscWidths d from.grid.pitch (rows from.grid) widths → mid.grid ≡ from.grid
-    → IsSpread from false widths mid → IsInverse mid to → (n : Node) → Has to n ↔ (IsInWindow from.grid n × IsClear from d n)
+    → IsSpread from false widths mid → IsInverse mid to → (n : Node) → Has to n ↔ (IsInWindow from.grid n × HasDisc from d n)
 eroded from mid to d widths are same spread inverse n =
     let g = from.grid in (
       λ has.
@@ -144,10 +145,10 @@ no_other pitch d c n small disc =
 has_centre : (pitch d : ℕ) (n : Node) → InDisc pitch d (place pitch n) n
 has_centre pitch d n = (in_disc pitch d n n).1 (rw (no_distance n.i, no_distance n.j) (omega arith))
 
-pub eroded_alone : (from to : Plane) (d : ℕ) → d < 2 * from.grid.pitch → to ≡ from → (n : Node) → Has to n ↔ (IsInWindow from.grid n × IsClear from d n)
+pub eroded_alone : (from to : Plane) (d : ℕ) → d < 2 * from.grid.pitch → to ≡ from → (n : Node) → Has to n ↔ (IsInWindow from.grid n × HasDisc from d n)
 eroded_alone from to d small same n =
     let pitch = from.grid.pitch in
-    subst (λ (p : Plane). Has p n ↔ (IsInWindow from.grid n × IsClear from d n)) (sym same) (
+    subst (λ (p : Plane). Has p n ↔ (IsInWindow from.grid n × HasDisc from d n)) (sym same) (
       λ has. (has.in_window, λ q q_in near. subst (λ m. Has from m) (sym (no_other pitch d n q small near)) has),
       λ (window, clear). clear n window (has_centre pitch d n),
     )

@@ -18,11 +18,11 @@ use Rattle.sn_outline.specs.JobRule.{IsJob}
 use Rattle.sn_raster.specs.Grid.{Grid, Node, Nodes, place, InDisc, IsGrid, IsGridOf, IsInWindow, IsInRaw, IsRawNode, greatest_margin}
 use Rattle.sn_raster.specs.GridLaws.{MarginIsGreatest, RawNodesAreTheJobs}
 use Rattle.sn_raster.specs.Plane.{Plane, Has, IsEmpty}
-use Rattle.sn_open.specs.Region.{InAllowed, IsFreeCentre, IsFollowed, IsDrilledAtCentre, InRounded, IsRequiredBy, KeepsSide, IsStepOf, HasLeastSide}
+use Rattle.sn_open.specs.Region.{IsFollowedAt, InAllowed, IsFreeCentre, IsFollowed, IsDrilledAtCentre, InRounded, IsRequiredBy, KeepsSide, IsStepOf, HasLeastSide}
 use Rattle.sn_open.specs.Planes.{IsGridWith, CellSet, AreAllowed, IsOpeningPlane, AreRequired}
 use Rattle.sn_open.specs.PlaneLaws.{OutsideIsAllowed, WindowHasDiscs}
-use Rattle.sn_open.specs.OnGrid.{IsCleared, IsFollowedAt, IsDrilledOn, HasRoomOn}
-use Rattle.sn_open.specs.Morphology.{IsClear, IsNearOne, HasBlock}
+use Rattle.sn_open.specs.OnGrid.{IsCleared, IsDrilledOn, HasRoomOn}
+use Rattle.sn_open.specs.Morphology.{HasDisc, IsNearOne, HasBlock}
 use Rattle.sn_open.proofs.WindowLemmas.{in_own_window}
 use Rattle.sn_open.proofs.MorphologyLemmas.{has_or_lacks}
 use Rattle.sn_open.proofs.OutsideLemmas.{IsWide, margins, raw_of_other}
@@ -136,7 +136,7 @@ drilled g job step cells near nodes making same are is_near is n =
 -- Required nodes.
 
 pub rounded : (g : Grid) (job : Job) (step : StepJob) (cells : CellSet) (centres near : Plane) → IsMaking g job step → cells.plane.grid ≡ g → AreAllowed cells job step
-    → ((n : Node) → Has centres n ↔ (IsInWindow g n × IsClear cells.plane step.corner n))
+    → ((n : Node) → Has centres n ↔ (IsInWindow g n × HasDisc cells.plane step.corner n))
     → centres.grid ≡ g → ((n : Node) → Has near n ↔ (IsInWindow g n × IsNearOne centres step.corner n))
     → (q : Node) → IsRawNode job q → IsInWindow g q → Has near q ↔ InRounded job step q
 rounded g job step cells centres near making same are is_clear same' is_near q raw window =

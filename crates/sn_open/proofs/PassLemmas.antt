@@ -13,7 +13,7 @@ use Rattle.sn_raster.specs.Heights.{low_end, Pass}
 use Rattle.sn_geom.specs.Acts.{Act}
 use Rattle.sn_geom.specs.Acts.Act.{Mark, PutTool, Enter, Locate, Rapid, Feed, End}
 use Rattle.sn_open.specs.Good.{body_of, marks, pass_of, passes}
-use Rattle.sn_open.specs.GoodLaws.{FeedCutsAboveItsPoint, OnlyFeedsCut, CutStaysCut, CutsInAnyOrder}
+use Rattle.sn_open.specs.GoodLaws.{FeedCutsAboveItsPoint, OnlyFeedsCut, CutStaysCut, SameActsLeaveTheSame}
 
 -- The body of a tool.
 
@@ -108,6 +108,7 @@ pub record IsFed (steps : List StepJob) (acts : List Act) (pass : Pass) : Type 0
   pub fed : Contains acts (Feed pass.from pass.to feed speed step.tool)
   pub executed : Contains steps step
   pub body : step.body ≡ pass.body
+  pub found : body_of steps step.tool ≡ Some pass.body
 
 later_fed : (steps : List StepJob) (act : Act) (acts : List Act) (pass : Pass) → IsFed steps acts pass → IsFed steps (act ∷ acts) pass
 later_fed steps act acts pass fed = record {
@@ -117,6 +118,7 @@ later_fed steps act acts pass fed = record {
   fed = there act (Feed pass.from pass.to fed.feed fed.speed fed.step.tool) acts fed.fed;
   executed = fed.executed;
   body = fed.body;
+  found = fed.found;
 }
 
 first_fed : (steps : List StepJob) (from to : Pt3) (feed speed tool : ℕ) (acts : List Act) (pass : Pass) (o : Option Body) → body_of steps tool ≡ o
@@ -133,6 +135,7 @@ first_fed steps from to feed speed tool acts pass (Some body) is (zero, below, e
       fed = subst (λ (k : ℕ). Contains (Feed from to feed speed tool ∷ acts) (Feed from to feed speed k)) (sym same) (here (Feed from to feed speed tool) acts);
       executed = inside;
       body = its;
+      found = subst (λ (k : ℕ). body_of steps k ≡ Some body) (sym same) is;
     })
 
 -- each pass is that of a feed
@@ -195,17 +198,15 @@ cut_stays_cut job before after c left = record {
   uncut = λ pass inside. left.uncut pass (earlier_pass job.steps before after pass inside);
 }
 
-exchanged : (steps : List StepJob) (some others : List Act) (pass : Pass)
-    → Contains (passes steps (some ++ others)) pass → Contains (passes steps (others ++ some)) pass
-exchanged steps some others pass inside =
-    subst (λ (ps : List Pass). Contains ps pass) (sym (passes_append steps others some))
-    (⊎_elim (λ first. Contains-append_right (passes steps others) (passes steps some) pass first)
-    (λ later. Contains-append_left (passes steps others) (passes steps some) pass later)
-    (Contains-append_cases (passes steps some) (passes steps others) pass
-    (subst (λ (ps : List Pass). Contains ps pass) (passes_append steps some others) inside)))
+kept_pass : (steps : List StepJob) (some others : List Act) → ((act : Act) → Contains some act → Contains others act)
+    → (pass : Pass) → Contains (passes steps some) pass → Contains (passes steps others) pass
+kept_pass steps some others all pass inside =
+    let fed = pass_fed steps some pass inside in
+    fed_pass steps others pass.from pass.to fed.feed fed.speed fed.step.tool pass.body fed.found
+    (all (Feed pass.from pass.to fed.feed fed.speed fed.step.tool) fed.fed)
 
-pub cuts_in_any_order : CutsInAnyOrder
-cuts_in_any_order job some others c = (
-  λ left. record { raw = left.raw; uncut = λ pass inside. left.uncut pass (exchanged job.steps others some pass inside) },
-  λ left. record { raw = left.raw; uncut = λ pass inside. left.uncut pass (exchanged job.steps some others pass inside) },
+pub same_acts_leave_the_same : SameActsLeaveTheSame
+same_acts_leave_the_same job some others c same = (
+  λ left. record { raw = left.raw; uncut = λ pass inside. left.uncut pass (kept_pass job.steps others some (λ act. (same act).1) pass inside) },
+  λ left. record { raw = left.raw; uncut = λ pass inside. left.uncut pass (kept_pass job.steps some others (λ act. (same act).0) pass inside) },
 )

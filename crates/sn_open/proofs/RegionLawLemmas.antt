@@ -13,7 +13,7 @@ use Rattle.sn_outline.specs.Outline.{NearTrail}
 use Rattle.sn_raster.specs.Grid.{Node, place}
 use Rattle.sn_raster.specs.Heights.{node_of}
 use Rattle.sn_open.specs.Region.{InAllowed, IsStepOf, HasLeastSide, HasLeastUnder, InBlock, IsRequiredBy, IsRequiredHeight, IsRequiredCell}
-use Rattle.sn_open.specs.RegionLaws.{IsBeside, IsBetween, FollowerOpensItsWay, RoundedFitsDiscs, OneStepIsRequired, LeastAllowancesCount}
+use Rattle.sn_open.specs.RegionLaws.{IsWithinTwo, IsBetween, FollowerOpensItsWay, RoundedFitsDiscs, OneStepIsRequired, LeastAllowancesCount}
 
 -- Trails.
 
@@ -69,10 +69,10 @@ rounded_fits_discs job step q = (
   ),
 )
 
-pub to_block : (n m : Node) → IsBeside n m → InBlock n m
+pub to_block : (n m : Node) → IsWithinTwo n m → InBlock n m
 to_block n m (left, right, front, back) = record { columns = omega (arith, ints, sums); rows = omega (arith, ints, sums) }
 
-from_block : (n m : Node) → InBlock n m → IsBeside n m
+from_block : (n m : Node) → InBlock n m → IsWithinTwo n m
 from_block n m block =
     let columns = block.columns in
     let rows = block.rows in

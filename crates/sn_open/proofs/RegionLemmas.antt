@@ -11,7 +11,7 @@ use Rattle.sn_open.specs.Region.{InAllowed, KeepsSide, IsFreeCentre}
 use Rattle.sn_open.specs.Planes.{IsGridWith, CellSet, AreAllowed}
 use Rattle.sn_open.specs.PlaneLaws.{OutsideIsAllowed}
 use Rattle.sn_open.specs.OnGrid.{KeepsSideOn}
-use Rattle.sn_open.specs.Morphology.{IsClear}
+use Rattle.sn_open.specs.Morphology.{HasDisc}
 use Rattle.sn_open.proofs.WindowLemmas.{in_own_window}
 use Rattle.sn_open.proofs.MorphologyLemmas.{has_or_lacks}
 
@@ -41,7 +41,7 @@ pub kept_side : (g : Grid) (outline : Outline) (side : ℕ) (filled refused kept
     → ((n : Node) → Has refused n ↔ (IsInWindow filled.grid n × (¬ Has filled n)))
     → ((n : Node) → Has kept n ↔ (Has refused n × IsInRaw g n))
     → ((n : Node) → Has spare n ↔ (IsInWindow kept.grid n × (¬ Has kept n)))
-    → ((n : Node) → Has nodes n ↔ (IsInWindow g n × IsClear spare (2 * side) n))
+    → ((n : Node) → Has nodes n ↔ (IsInWindow g n × HasDisc spare (2 * side) n))
     → (n : Node) → Has nodes n ↔ (IsInWindow g n × KeepsSideOn g outline side n)
 kept_side g outline side filled refused kept spare nodes rule filled_grid refused_grid kept_grid spare_grid is_filled is_refused is_kept is_spare is_clear n =
     let near_of : (q : Node) → InDisc spare.grid.pitch (2 * side) (place spare.grid.pitch n) q ↔ InDisc g.pitch (2 * side) (place g.pitch n) q =
@@ -83,7 +83,7 @@ allowed_by_side law g h job step nodes rule same own is of n window =
 -- The free centres, by the allowed nodes in the window.
 
 pub free_centres : OutsideIsAllowed → (g : Grid) (job : Job) (step : StepJob) (cells : CellSet) (nodes : Plane) → IsGridWith g step → IsGridOf g job → cells.plane.grid ≡ g
-    → AreAllowed cells job step → ((n : Node) → Has nodes n ↔ (IsInWindow cells.plane.grid n × IsClear cells.plane step.body.d n))
+    → AreAllowed cells job step → ((n : Node) → Has nodes n ↔ (IsInWindow cells.plane.grid n × HasDisc cells.plane step.body.d n))
     → (n : Node) → IsInWindow g n → Has nodes n ↔ IsFreeCentre job step n
 free_centres law g job step cells nodes with of same are clear n window =
     let pitch : job.pitch ≡ cells.plane.grid.pitch = sym of.pitch ∙ ap (λ h. h.pitch) (sym same) in

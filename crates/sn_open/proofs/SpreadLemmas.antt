@@ -7,7 +7,7 @@ use Rattle.sn_raster.specs.Plane.{Plane, Has}
 use Rattle.sn_open.specs.declared.spread.Direction.{Direction}
 use Rattle.sn_open.specs.declared.spread.Direction.TheVariants.{Rising, Falling}
 use Rattle.sn_open.specs.Window.{columns, rows, node_at, IsMarked}
-use Rattle.sn_open.specs.Spread.{place_in, node_along, node_by, quarter_of, AreHalfWidths, IsGap, AreGaps, ArePassing, IsTakenIn, width_in, IsReach, IsReached, GainsInRow, Gains, IsCovered, HasTakenIn}
+use Rattle.sn_open.specs.Spread.{place_in, node_along, node_by, quarter_of, AreHalfWidths, IsGap, AreGaps, ArePassing, IsTakenIn, width_in, IsReach, IsInReach, GainsInRow, Gains, IsCovered, HasTakenIn}
 use Rattle.sn_open.proofs.QuarterLemmas.{covered_of_taken}
 
 pub one_more : (P : ℕ → Type 0) (n : ℕ) → ((k : ℕ) → k < n → P k) → P n → (k : ℕ) → k < n + 1 → P k
@@ -93,33 +93,33 @@ reach_by widths gaps across n column place reach next at is e =
 
 -- a column is reached exactly where the reach goes beyond it
 pub reached_by : (widths gaps : List ℕ) (across : Direction) (n column reach : ℕ) → IsReach widths gaps across n (column + 1) reach → column < reach
-    → IsReached widths gaps across n column
+    → IsInReach widths gaps across n column
 reached_by widths gaps across n column reach is beyond = let (k, below, e) = is.found (omega arith) in (k, omega arith, omega arith)
 
-pub beyond_reached : (widths gaps : List ℕ) (across : Direction) (n column reach : ℕ) → IsReach widths gaps across n (column + 1) reach → IsReached widths gaps across n column
+pub beyond_reached : (widths gaps : List ℕ) (across : Direction) (n column reach : ℕ) → IsReach widths gaps across n (column + 1) reach → IsInReach widths gaps across n column
     → column < reach
 beyond_reached widths gaps across n column reach is (k, before, near) = let most = is.most k (omega arith) in omega arith
 
 -- the gains of a row after one more column
 
 pub gains_reached : (widths gaps : List ℕ) (across : Direction) (g : Grid) (row column : ℕ) (m : Node) (old mid new : Plane) → new.grid ≡ g → column < columns g
-    → GainsInRow widths gaps across g row column old mid → IsReached widths gaps across (columns g) column → m ≡ node_at g (place_in across (columns g) column) row
+    → GainsInRow widths gaps across g row column old mid → IsInReach widths gaps across (columns g) column → m ≡ node_at g (place_in across (columns g) column) row
     → ((n : Node) → Has new n ↔ (Has mid n ⊎ (n ≡ m))) → GainsInRow widths gaps across g row (column + 1) old new
 gains_reached widths gaps across g row column m old mid new same inside gains reached is nodes = record {
   grid = same;
   kept = λ n has. (nodes n).1 (inl (gains.kept n has));
   gained = λ n has. ⊎_elim (λ (before : Has mid n). gains.gained n before) (λ (here : n ≡ m). inr (column, inside, reached, here ∙ is)) ((nodes n).0 has);
-  taken = one_more (λ k. IsReached widths gaps across (columns g) k → Has new (node_at g (place_in across (columns g) k) row)) column
+  taken = one_more (λ k. IsInReach widths gaps across (columns g) k → Has new (node_at g (place_in across (columns g) k) row)) column
       (λ k below far. (nodes _).1 (inl (gains.taken k below far))) (λ far. (nodes _).1 (inr (sym is)));
 }
 
 pub gains_unreached : (widths gaps : List ℕ) (across : Direction) (g : Grid) (row column : ℕ) (old new : Plane)
-    → GainsInRow widths gaps across g row column old new → ¬ IsReached widths gaps across (columns g) column → GainsInRow widths gaps across g row (column + 1) old new
+    → GainsInRow widths gaps across g row column old new → ¬ IsInReach widths gaps across (columns g) column → GainsInRow widths gaps across g row (column + 1) old new
 gains_unreached widths gaps across g row column old new gains unreached = record {
   grid = gains.grid;
   kept = gains.kept;
   gained = gains.gained;
-  taken = one_more (λ k. IsReached widths gaps across (columns g) k → Has new (node_at g (place_in across (columns g) k) row)) column gains.taken
+  taken = one_more (λ k. IsInReach widths gaps across (columns g) k → Has new (node_at g (place_in across (columns g) k) row)) column gains.taken
       (λ far. absurd (unreached far));
 }
 
@@ -134,7 +134,7 @@ place_by direction n m k c count is = is ∙ ap (λ l. place_in direction l k) c
 -- a node is taken in exactly where it is reached
 
 pub taken_of_reached : (plane : Plane) (on : Bool) (across along : Direction) (widths gaps : List ℕ) (r column : ℕ) → column < columns plane.grid
-    → AreHalfWidths (rows plane.grid) widths → AreGaps plane on along (r + 1) gaps → IsReached widths gaps across (columns plane.grid) column
+    → AreHalfWidths (rows plane.grid) widths → AreGaps plane on along (r + 1) gaps → IsInReach widths gaps across (columns plane.grid) column
     → IsTakenIn plane on (quarter_of across along) widths column r
 taken_of_reached plane on across along widths gaps r column inside half are (k, before, near) =
     let place = place_in across (columns plane.grid) k in
@@ -152,7 +152,7 @@ taken_of_reached plane on across along widths gaps r column inside half are (k, 
 
 pub reached_of_taken : (plane : Plane) (on : Bool) (across along : Direction) (widths gaps : List ℕ) (r column : ℕ) → column < columns plane.grid → r < rows plane.grid
     → AreHalfWidths (rows plane.grid) widths → AreGaps plane on along (r + 1) gaps → IsTakenIn plane on (quarter_of across along) widths column r
-    → IsReached widths gaps across (columns plane.grid) column
+    → IsInReach widths gaps across (columns plane.grid) column
 reached_of_taken plane on across along widths gaps r column inside row_in half are (k, row, takes) =
     let column_before = takes.column_before in
     let row_before = takes.row_before in
@@ -183,7 +183,7 @@ gains_of_row plane on across along widths gaps r old new row_in half are gains =
   kept = gains.kept;
   gained = λ n has.
       ⊎_elim (λ (before : Has old n). inl before)
-      (λ (reached : (k : ℕ) × (k < columns plane.grid) × IsReached widths gaps across (columns plane.grid) k
+      (λ (reached : (k : ℕ) × (k < columns plane.grid) × IsInReach widths gaps across (columns plane.grid) k
       × (n ≡ node_by (quarter_of across along) plane.grid k r)).
       let (k, inside, far, is) = reached in
       let taken = taken_of_reached plane on across along widths gaps r k inside half are far in

@@ -4,7 +4,7 @@ use Rattle.std.proofs.lemmas.List.{length-set}
 use Rattle.std.proofs.lemmas.Bool.{cases_lt}
 use Rattle.std.proofs.lemmas.Nat.{mul-le}
 use Rattle.sn_geom.specs.Sweep.{IsHalfWidth}
-use Rattle.sn_open.specs.Morphology.{IsWithin, AreDiscWidths}
+use Rattle.sn_open.specs.Widths.{IsWithin, AreDiscWidths}
 use Rattle.sn_open.specs.Spread.{AreHalfWidths}
 
 pub square_le : (a b : ℕ) → a ≤ b → a * a ≤ b * b

@@ -1,5 +1,5 @@
 -- MEANING: laws of good programs, by their acts, and of what acts leave of the material.
-use Rattle.std.specs.Prelude.{◌≡◌, ◌≢◌, ◌↔◌, ◌⊎◌, ◌<◌, ◌+ℤ◌, ◌≤ℤ◌, ◌<ℤ◌, ◌∷◌, ◌++◌, ℕ, ℤ, pos, List, [], map, length, Contains, slice_get}
+use Rattle.std.specs.Prelude.{◌≡◌, ◌≢◌, ◌↔◌, ◌⊎◌, ◌+◌, ◌<◌, ◌+ℤ◌, ◌≤ℤ◌, ◌<ℤ◌, ◌∷◌, ◌++◌, ℕ, ℤ, pos, List, [], map, length, Contains, Some, slice_get}
 use Rattle.std.specs.Int.{int_min}
 use Rattle.sn_geom.specs.declared.units.Pt.{Pt}
 use Rattle.sn_geom.specs.declared.units.Pt3.{Pt3}
@@ -13,8 +13,26 @@ use Rattle.sn_raster.specs.Heights.{node_of, low_end, IsRawCell}
 use Rattle.sn_open.specs.Region.{InAllowed, IsAllowedHeight}
 use Rattle.sn_geom.specs.Acts.{Act}
 use Rattle.sn_geom.specs.Acts.Act.{Enter, Locate, Rapid, Feed}
-use Rattle.sn_open.specs.Good.{marks, IsCurrent, IsLeft, AreGood, Good}
+use Rattle.sn_open.specs.Good.{body_of, marks, passes, IsCurrent, IsLeft, AreGood, Good}
 use Rattle.sn_geom.specs.LineText.{LineText}
+
+-- the current step is one of the executed steps, and the marks are one more than the steps before it
+abbrev pub CurrentStepIsMarked : Type 0
+CurrentStepIsMarked =
+    (job : Job) (before : List Act) (step : StepJob)
+    → IsCurrent job before step
+    ↔ ((front : List StepJob) × (back : List StepJob) × (job.steps ≡ front ++ step ∷ back) × (length (marks before) ≡ length front + 1))
+
+-- the marks and the passes of acts in a row are those of the first of them and then those of the others
+abbrev pub ActsGoInARow : Type 0
+ActsGoInARow =
+    (steps : List StepJob) (some others : List Act)
+    → (marks (some ++ others) ≡ marks some ++ marks others) × (passes steps (some ++ others) ≡ passes steps some ++ passes steps others)
+
+-- where steps of one tool have one body, that of a step's tool is the step's
+abbrev pub BodiesAreTheSteps : Type 0
+BodiesAreTheSteps =
+    (steps : List StepJob) (step : StepJob) → HaveOneBody steps → Contains steps step → body_of steps step.tool ≡ Some step.body
 
 -- a missing mark, one too many, or one of another step
 abbrev pub GoodMarksAreTheSteps : Type 0
@@ -110,6 +128,8 @@ OnlyFeedsCut =
 abbrev pub CutStaysCut : Type 0
 CutStaysCut = (job : Job) (before after : List Act) (c : Cell) → IsLeft job (before ++ after) c → IsLeft job before c
 
--- the order of acts does not matter for what is left
-abbrev pub CutsInAnyOrder : Type 0
-CutsInAnyOrder = (job : Job) (some others : List Act) (c : Cell) → IsLeft job (some ++ others) c ↔ IsLeft job (others ++ some) c
+-- neither the order of acts nor how often one comes matters for what is left: the same acts leave the same
+abbrev pub SameActsLeaveTheSame : Type 0
+SameActsLeaveTheSame =
+    (job : Job) (some others : List Act) (c : Cell) → ((act : Act) → Contains some act ↔ Contains others act)
+    → IsLeft job some c ↔ IsLeft job others c

@@ -16,4 +16,5 @@ pub mod Spread
 pub mod Update
 pub mod Verdict
 pub mod VerdictLaws
+pub mod Widths
 pub mod Window

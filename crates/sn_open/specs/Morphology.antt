@@ -1,23 +1,12 @@
--- MEANING: erosion and dilation of planes over their window, by discs and by the five by five block of nodes; and the code's
--- own words of the half widths of discs (this project's own).
-use Rattle.std.specs.Prelude.{◌≡◌, ◌↔◌, ℕ, ◌+◌, ◌*◌, ◌≤◌, ◌<◌, List, length, slice_index}
+-- MEANING: erosion and dilation of planes over their window, by discs and by the five by five block of nodes (this project's own).
+use Rattle.std.specs.Prelude.{ℕ}
 use Rattle.sn_raster.specs.Grid.{Node, Nodes, place, InDisc, IsInWindow}
 use Rattle.sn_raster.specs.Plane.{Plane, Has}
 use Rattle.sn_open.specs.Region.{InBlock}
 
--- a node m columns and k rows away is in the disc of diameter d
-abbrev pub IsWithin : ℕ → ℕ → ℕ → ℕ → Type 0
-IsWithin d pitch m k = 4 * (m * pitch * (m * pitch) + k * pitch * (k * pitch)) ≤ d * d
-
--- the half widths of the disc, in columns, for each count of rows between: how many columns from the middle on it has there
-pub record AreDiscWidths (d pitch rows : ℕ) (widths : List ℕ) : Type 0 where
-  pub full : length widths ≡ rows + 1
-  pub each : (k : ℕ) → k < rows → (m : ℕ) → m < slice_index widths k ↔ IsWithin d pitch m k
-  pub last : slice_index widths rows ≡ 0
-
 -- all nodes of the window in the disc of diameter d about n are in the plane
-abbrev pub IsClear : Plane → ℕ → Nodes
-IsClear plane d n = (q : Node) → IsInWindow plane.grid q → InDisc plane.grid.pitch d (place plane.grid.pitch n) q → Has plane q
+abbrev pub HasDisc : Plane → ℕ → Nodes
+HasDisc plane d n = (q : Node) → IsInWindow plane.grid q → InDisc plane.grid.pitch d (place plane.grid.pitch n) q → Has plane q
 
 -- n is in the disc of diameter d about a node of the plane
 abbrev pub IsNearOne : Plane → ℕ → Nodes

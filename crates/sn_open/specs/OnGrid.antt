@@ -6,7 +6,7 @@ use Rattle.sn_outline.specs.declared.job.StepJob.{StepJob}
 use Rattle.sn_outline.specs.declared.outline.Outline.{Outline}
 use Rattle.sn_outline.specs.declared.outline.Shape.{Shape}
 use Rattle.sn_outline.specs.declared.outline.Shape.TheVariants.{Rect, Circle, Polygon, Trail}
-use Rattle.sn_outline.specs.Outline.{InOutline, NearTrail}
+use Rattle.sn_outline.specs.Outline.{InOutline}
 use Rattle.sn_raster.specs.Grid.{Grid, Node, Nodes, place, InDisc, IsInRaw, IsInWindow, IsRawNode}
 use Rattle.sn_raster.specs.Plane.{Plane, Has}
 use Rattle.sn_open.specs.Region.{IsFreeCentre}
@@ -22,13 +22,6 @@ IsCleared job step n = IsRawNode job n × ((c : Node) × IsFreeCentre job step c
 -- the plane has all nodes of its window in the disc of diameter d about the point
 abbrev pub HasRoomOn : Plane → ℕ → Pt → Type 0
 HasRoomOn plane d centre = (m : Node) → IsInWindow plane.grid m → InDisc plane.grid.pitch d centre m → Has plane m
-
--- the nodes within half the tool's diameter of the trail of the outline
-abbrev pub IsFollowedAt : ℕ → StepJob → Shape → Nodes
-IsFollowedAt pitch step (Rect low high) n = ⊥
-IsFollowedAt pitch step (Circle centre d) n = ⊥
-IsFollowedAt pitch step (Polygon points) n = ⊥
-IsFollowedAt pitch step (Trail points width) n = NearTrail points step.body.d (place pitch n)
 
 -- the nodes of the disc at the centre of the outline, where the plane has all of it
 abbrev pub IsDrilledOn : Plane → StepJob → Shape → Nodes

@@ -8,7 +8,7 @@ use Rattle.sn_outline.specs.declared.job.Way.TheVariants as way
 use Rattle.sn_raster.specs.Grid.{Node, IsRawNode}
 use Rattle.sn_raster.specs.Heights.{node_of, IsBefore}
 use Rattle.sn_open.specs.Region.{InAllowed, IsFreeCentre, IsOpening, IsStepOf, HasLeastSide, InRounded, IsRequiredNode, IsRequiredCell}
-use Rattle.sn_open.specs.RegionLaws.{IsBeside}
+use Rattle.sn_open.specs.RegionLaws.{IsWithinTwo}
 use Rattle.sn_open.specs.Reach.{full_width_from, IsFirstUnreached}
 
 abbrev pub with_diameter : StepJob → ℕ → StepJob
@@ -38,7 +38,7 @@ OpeningsAreAllowed =
 abbrev pub RequiredBlocksAreRounded : Type 0
 RequiredBlocksAreRounded =
     (job : Job) (feature : ℕ) (step : StepJob) (n m : Node) → IsJob job → HasLeastSide job feature step → IsRequiredNode job feature n
-    → IsBeside n m → IsRawNode job m → InRounded job step m × InAllowed job step m
+    → IsWithinTwo n m → IsRawNode job m → InRounded job step m × InAllowed job step m
 
 -- The first unreached cell of a feature is required; where a step of the feature opens its node, it does so from a greater
 -- height up; and no required cell before it is one that no step opens.

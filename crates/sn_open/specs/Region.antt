@@ -38,14 +38,18 @@ pub record IsAllowed (job : Job) (step : StepJob) (c : Cell) : Type 0 where
   pub node : InAllowed job step (node_of c)
   pub height : IsAllowedHeight step c.z
 
+-- the step may cut over all nodes of the disc of its tool about the point
+abbrev pub HasRoom : Job → StepJob → Pt → Type 0
+HasRoom job step p = (n : Node) → InDisc job.pitch step.body.d p n → InAllowed job step n
+
 -- the nodes at which the whole tool is over allowed nodes
 abbrev pub IsFreeCentre : Job → StepJob → Nodes
-IsFreeCentre job step c = (n : Node) → InDisc job.pitch step.body.d (place job.pitch c) n → InAllowed job step n
+IsFreeCentre job step c = HasRoom job step (place job.pitch c)
 
 -- the nodes that a drill at a point opens: its disc, and none where a node of it is not allowed
 pub record IsDrilled (job : Job) (step : StepJob) (centre : Pt) (n : Node) : Type 0 where
   pub under : InDisc job.pitch step.body.d centre n
-  pub free : (m : Node) → InDisc job.pitch step.body.d centre m → InAllowed job step m
+  pub free : HasRoom job step centre
 
 -- the nodes that a step at the centre of its outline opens; only a circle has one
 abbrev pub IsDrilledAtCentre : Job → StepJob → Shape → Nodes
@@ -54,12 +58,15 @@ IsDrilledAtCentre job step (Circle centre d) n = IsDrilled job step centre n
 IsDrilledAtCentre job step (Polygon points) n = ⊥
 IsDrilledAtCentre job step (Trail points width) n = ⊥
 
--- the nodes within half the tool's diameter of the trail of the outline
+-- the nodes of a grid of this pitch within half the tool's diameter of the trail of the outline; only a trail has one
+abbrev pub IsFollowedAt : ℕ → StepJob → Shape → Nodes
+IsFollowedAt pitch step (Rect low high) n = ⊥
+IsFollowedAt pitch step (Circle centre d) n = ⊥
+IsFollowedAt pitch step (Polygon points) n = ⊥
+IsFollowedAt pitch step (Trail points width) n = NearTrail points step.body.d (place pitch n)
+
 abbrev pub IsFollowed : Job → StepJob → Shape → Nodes
-IsFollowed job step (Rect low high) n = ⊥
-IsFollowed job step (Circle centre d) n = ⊥
-IsFollowed job step (Polygon points) n = ⊥
-IsFollowed job step (Trail points width) n = NearTrail points step.body.d (place job.pitch n)
+IsFollowed job = IsFollowedAt job.pitch
 
 -- the nodes that a step can open, by its way
 abbrev pub IsReached : Job → StepJob → Nodes

@@ -1,5 +1,6 @@
 -- Laws of where a step may cut, what it opens, and what has to be cut.
-use Rattle.std.specs.Prelude.{◌≡◌, ◌↔◌, ◌+◌, ◌*◌, ◌≤◌, ◌<◌, ◌+ℤ◌, ◌-ℤ◌, ◌≤ℤ◌, ◌<ℤ◌, ◌∷◌, ℕ, ℤ, pos, neg_ℤ, [], Contains}
+use Rattle.std.specs.Prelude.{◌≡◌, ◌↔◌, ◌+◌, ◌*◌, ◌/◌, ◌≤◌, ◌<◌, ◌+ℤ◌, ◌-ℤ◌, ◌≤ℤ◌, ◌<ℤ◌, ◌∷◌, ℕ, ℤ, pos, neg_ℤ, [], Contains}
+use Rattle.sn_geom.specs.declared.limits.TheConstants.{PER_MM}
 use Rattle.sn_geom.specs.declared.units.Pt.{Pt}
 use Rattle.sn_geom.specs.declared.units.Cell.{Cell}
 use Rattle.sn_geom.specs.Sweep.{Near, square}
@@ -11,7 +12,7 @@ use Rattle.sn_outline.specs.declared.outline.Shape.TheVariants.{Circle, Trail}
 use Rattle.sn_outline.specs.Outline.{InOutline}
 use Rattle.sn_raster.specs.Grid.{Node, place, InDisc, IsRawNode}
 use Rattle.sn_raster.specs.Heights.{node_of, IsRawCell}
-use Rattle.sn_open.specs.Region.{InAllowed, IsAllowedHeight, IsOpening, InRounded, IsRequiredCell}
+use Rattle.sn_open.specs.Region.{InAllowed, HasRoom, IsAllowedHeight, IsOpening, InRounded, IsRequiredCell}
 use Rattle.sn_outline.specs.declared.job.Way.TheVariants as way
 
 abbrev pub squared_distance : Pt → Pt → ℕ
@@ -25,18 +26,22 @@ AllowedKeepsTheSide =
     → InAllowed job step q ↔ ((n : Node) → IsRawNode job n → squared_distance (place job.pitch q) (place job.pitch n) ≤ step.side * step.side
     → InOutline step.outline (place job.pitch n))
 
+-- micrometres in units of length
+abbrev pub um : ℕ → ℕ
+um n = n * PER_MM / 1000
+
 -- a floor 6 mm below zero with a bottom allowance of 0.2 mm, and a tool with a point length of 0.3 mm
 abbrev pub pointed : StepJob → Bottom → StepJob
-pointed step bottom = record step { bottom = bottom; floor = neg_ℤ (pos 6000); under = 200; body = record { d = 8000; e = 300 } }
+pointed step bottom = record step { bottom = bottom; floor = neg_ℤ (pos (um 6000)); under = um 200; body = record { d = um 8000; e = um 300 } }
 
 -- the lowest height at which it may cut: the point of the tool passes the floor where the bottom is conical, and a bottom
 -- that goes through has none
 abbrev pub HeightsBeginAtTheTip : Type 0
 HeightsBeginAtTheTip =
     (step : StepJob)
-    → IsAllowedHeight (pointed step Flat) (neg_ℤ (pos 5800)) × (¬ IsAllowedHeight (pointed step Flat) (neg_ℤ (pos 5801)))
-    × IsAllowedHeight (pointed step Conical) (neg_ℤ (pos 6100)) × (¬ IsAllowedHeight (pointed step Conical) (neg_ℤ (pos 6101)))
-    × (tip_floor (pointed step Through) ≡ neg_ℤ (pos 6100)) × ((z : ℤ) → IsAllowedHeight (pointed step Through) z)
+    → IsAllowedHeight (pointed step Flat) (neg_ℤ (pos (um 5800))) × (¬ IsAllowedHeight (pointed step Flat) (neg_ℤ (pos (um 5800 + 1))))
+    × IsAllowedHeight (pointed step Conical) (neg_ℤ (pos (um 6100))) × (¬ IsAllowedHeight (pointed step Conical) (neg_ℤ (pos (um 6100 + 1))))
+    × (tip_floor (pointed step Through) ≡ neg_ℤ (pos (um 6100))) × ((z : ℤ) → IsAllowedHeight (pointed step Through) z)
 
 abbrev pub drilling : StepJob → Pt → ℕ → StepJob
 drilling step centre d = record step { way = way.Drill; outline = record { shape = Circle centre d; islands = [] } }
@@ -46,10 +51,6 @@ following step a b width = record step { way = way.Trail; outline = record { sha
 
 abbrev pub clearing : StepJob → StepJob
 clearing step = record step { way = way.Clear }
-
--- the step may cut over all nodes of the disc of its tool about the point
-abbrev pub HasRoom : Job → StepJob → Pt → Type 0
-HasRoom job step p = (m : Node) → InDisc job.pitch step.body.d p m → InAllowed job step m
 
 -- a drill with room opens the raw nodes of its disc, and nothing without room
 abbrev pub DrillOpensItsDisc : Type 0
@@ -84,14 +85,14 @@ RoundedFitsDiscs =
     × (step.corner ≡ 0 → InAllowed job step q → InRounded job step q)
 
 -- the node is at most two columns and two rows away
-abbrev pub IsBeside : Node → Node → Type 0
-IsBeside n m = (n.i ≤ℤ (m.i +ℤ pos 2)) × (m.i ≤ℤ (n.i +ℤ pos 2)) × (n.j ≤ℤ (m.j +ℤ pos 2)) × (m.j ≤ℤ (n.j +ℤ pos 2))
+abbrev pub IsWithinTwo : Node → Node → Type 0
+IsWithinTwo n m = (n.i ≤ℤ (m.i +ℤ pos 2)) × (m.i ≤ℤ (n.i +ℤ pos 2)) × (n.j ≤ℤ (m.j +ℤ pos 2)) × (m.j ≤ℤ (n.j +ℤ pos 2))
 
 -- the raw cells between two steps' floor and top: the nodes about them are those of the first step, the heights those of
 -- the other
 abbrev pub IsBetween : Job → StepJob → StepJob → Cell → Type 0
 IsBetween job side under c =
-    IsRawCell job c × ((m : Node) → IsBeside (node_of c) m → IsRawNode job m → InRounded job side m)
+    IsRawCell job c × ((m : Node) → IsWithinTwo (node_of c) m → IsRawNode job m → InRounded job side m)
     × ((under.floor +ℤ pos under.under) ≤ℤ c.z) × (c.z <ℤ under.top)
 
 abbrev pub IsOnlyStepOf : Job → ℕ → StepJob → Type 0

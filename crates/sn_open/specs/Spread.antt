@@ -73,16 +73,16 @@ pub record IsReach (widths gaps : List ℕ) (across : Direction) (n column reach
   pub found : 0 < reach → (k : ℕ) × (k < column) × (reach ≡ k + width_in widths gaps across n k)
 
 -- the marks of the columns up to this one reach beyond it
-abbrev pub IsReached : List ℕ → List ℕ → Direction → ℕ → ℕ → Type 0
-IsReached widths gaps across n column = (k : ℕ) × (k ≤ column) × (column < k + width_in widths gaps across n k)
+abbrev pub IsInReach : List ℕ → List ℕ → Direction → ℕ → ℕ → Type 0
+IsInReach widths gaps across n column = (k : ℕ) × (k ≤ column) × (column < k + width_in widths gaps across n k)
 
 -- a plane that keeps its nodes and gains those of a row that are reached: all in the columns before this one
 pub record GainsInRow (widths gaps : List ℕ) (across : Direction) (g : Grid) (row column : ℕ) (old new : Plane) : Type 0 where
   pub grid : new.grid ≡ g
   pub kept : (n : Node) → Has old n → Has new n
   pub gained : (n : Node) → Has new n → Has old n
-      ⊎ ((k : ℕ) × (k < columns g) × IsReached widths gaps across (columns g) k × (n ≡ node_at g (place_in across (columns g) k) row))
-  pub taken : (k : ℕ) → k < column → IsReached widths gaps across (columns g) k → Has new (node_at g (place_in across (columns g) k) row)
+      ⊎ ((k : ℕ) × (k < columns g) × IsInReach widths gaps across (columns g) k × (n ≡ node_at g (place_in across (columns g) k) row))
+  pub taken : (k : ℕ) → k < column → IsInReach widths gaps across (columns g) k → Has new (node_at g (place_in across (columns g) k) row)
 
 -- the marked node covers the other: it reaches to its column in its row
 pub record Covers (plane : Plane) (on : Bool) (widths : List ℕ) (mark n : Node) : Type 0 where

@@ -1,4 +1,4 @@
--- MEANING: the window of a grid by columns and rows, counted from its first (this project's own).
+-- The window of a grid by columns and rows, counted from its first (the code's own words, of contracts too).
 use Rattle.std.specs.Prelude.{ℕ, ◌↔◌, pos, ◌+ℤ◌, Bool, IsTrue}
 use Rattle.sn_raster.specs.Grid.{Grid, Node, IsInWindow, places}
 use Rattle.sn_raster.specs.Plane.{Plane, Has}

@@ -8,7 +8,7 @@ ghost use Rattle.sn_raster.specs.Plane.{Has};
 ghost use Rattle.sn_open.specs.Region.{IsAllowedHeight};
 ghost use Rattle.sn_open.specs.Planes.{IsGridWith, IsHigh, AreAllowed};
 ghost use Rattle.sn_open.specs.OnGrid.{KeepsSideOn};
-ghost use Rattle.sn_open.specs.Morphology.{IsClear, IsNearOne, HasBlock};
+ghost use Rattle.sn_open.specs.Morphology.{HasDisc, IsNearOne, HasBlock};
 
 use crate::morphology::Room;
 use sn_geom::{Memory, REACH};
@@ -105,7 +105,7 @@ impl Allowed {
     }
 
     /// The lowest height at which the step may cut, and None where it may cut at all heights.
-    pub fn lowest(&self) -> Option<i32>
+    pub(crate) fn lowest(&self) -> Option<i32>
         ensures { result ≡ self.now.lowest }
     {
         self.lowest
@@ -124,7 +124,7 @@ impl Allowed {
         requires to { to.old.grid ≡ self.old.plane.grid }
         ensures allowed { self.new ≡ self.old }
         ensures grid { to.new.grid ≡ self.old.plane.grid }
-        ensures nodes { (n : Node) → Has to.new n ↔ (IsInWindow self.old.plane.grid n × IsClear self.old.plane d n) }
+        ensures nodes { (n : Node) → Has to.new n ↔ (IsInWindow self.old.plane.grid n × HasDisc self.old.plane d n) }
     {
         self.room.erode(d, &self.nodes, to);
     }

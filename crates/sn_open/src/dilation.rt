@@ -10,7 +10,7 @@ use std::alloc::Global;
 
 /// The plane of the nodes of the window whose disc of diameter `d` has a node of the plane.
 ///
-/// `d` is micrometres. The work for a node is the same for all diameters.
+/// `d` is in tenths of a micrometre. The work for a node is the same for all diameters.
 pub fn dilated(alloc: Global, plane: &Bits, d: u32) -> Result<Bits, Memory>
     requires { d ≤ 2 * REACH }
     ensures grid { IfOk result (λ to. to.grid ≡ plane.now.grid) }

@@ -1,5 +1,12 @@
 //! Laws of good programs.
-ghost use Rattle.sn_open.specs.GoodLaws.{AllIsLeftAtFirst, CutsInAnyOrder, CutStaysCut, FeedCutsAboveItsPoint, OnlyFeedsCut, GoodMarksAreTheSteps, GoodEntriesAreSafe, GoodProgramsAreRead, GoodRapidsAreClear, GoodFeedsAreTheirSteps, GoodFeedsStayAllowed, GoodProgramsMoveClear};
+ghost use Rattle.sn_open.specs.GoodLaws.{AllIsLeftAtFirst, SameActsLeaveTheSame, CutStaysCut, FeedCutsAboveItsPoint, OnlyFeedsCut, CurrentStepIsMarked, ActsGoInARow, BodiesAreTheSteps, GoodMarksAreTheSteps, GoodEntriesAreSafe, GoodProgramsAreRead, GoodRapidsAreClear, GoodFeedsAreTheirSteps, GoodFeedsStayAllowed, GoodProgramsMoveClear};
+
+/// Laws of acts in a row, of the step that is current after them, and of the bodies of tools.
+pub fn acts()
+    ensures current { CurrentStepIsMarked }
+    ensures in_a_row { ActsGoInARow }
+    ensures bodies { BodiesAreTheSteps }
+{}
 
 /// Laws of the order and the entries of a good program.
 pub fn good_order()
@@ -22,5 +29,5 @@ pub fn left()
     ensures above_the_point { FeedCutsAboveItsPoint }
     ensures only_feeds { OnlyFeedsCut }
     ensures stays_cut { CutStaysCut }
-    ensures any_order { CutsInAnyOrder }
+    ensures same_acts { SameActsLeaveTheSame }
 {}

@@ -1,6 +1,6 @@
 //! Regions of steps: where a step may cut, what it opens, and what has to be cut.
 //!
-//! Lengths are whole micrometres.
+//! Lengths are whole tenths of a micrometre.
 #![tactic(auto)]
 
 mod allowed;
@@ -27,7 +27,6 @@ pub use allowed::Allowed;
 pub use centres::Centres;
 pub use dilation::dilated;
 pub use gouges::Gouges;
-pub use morphology::Room;
 pub use opening::Opening;
 pub use reach::{first_small, first_unreached};
 pub use required::Required;

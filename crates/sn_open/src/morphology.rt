@@ -3,7 +3,7 @@ ghost use Rattle.std.specs.Prelude.{◌≡◌, ◌↔◌, ◌+◌, ◌*◌, ◌�
 ghost use Rattle.sn_raster.specs.Grid.{Node, IsInWindow, IsInRaw};
 ghost use Rattle.sn_raster.specs.Plane.{Has};
 ghost use Rattle.sn_open.specs.Window.{columns, rows as rows_in};
-ghost use Rattle.sn_open.specs.Morphology.{IsClear, IsNearOne, HasBlock};
+ghost use Rattle.sn_open.specs.Morphology.{HasDisc, IsNearOne, HasBlock};
 
 use crate::planes::fill_raw;
 use crate::spread::spread;
@@ -16,7 +16,7 @@ use std::marker::Model;
 
 /// What erosions and dilations over a grid need: its raw nodes, and room for a plane, a number a column and a number a row.
 #[derive(Drop)]
-pub struct Room {
+pub(crate) struct Room {
     raw: Bits,
     spare: Bits,
     gaps: Vec<u32>,
@@ -64,7 +64,7 @@ impl Room {
         requires to { to.old.grid ≡ self.old }
         ensures room { self.new ≡ self.old }
         ensures grid { to.new.grid ≡ self.old }
-        ensures nodes { (n : Node) → Has to.new n ↔ (IsInWindow self.old n × IsClear from.now d n) }
+        ensures nodes { (n : Node) → Has to.new n ↔ (IsInWindow self.old n × HasDisc from.now d n) }
     {
         erode_in(&mut self.widths, &mut self.gaps, d, from, to);
     }
@@ -110,7 +110,7 @@ fn erode_in(widths: &mut [u32], gaps: &mut [u32], d: u32, from: &Bits, to: &mut 
     requires widths { length widths.old ≡ rows_in from.now.grid + 1 }
     requires gaps { length gaps.old ≡ columns from.now.grid }
     ensures grid { to.new.grid ≡ from.now.grid }
-    ensures nodes { (n : Node) → Has to.new n ↔ (IsInWindow from.now.grid n × IsClear from.now d n) }
+    ensures nodes { (n : Node) → Has to.new n ↔ (IsInWindow from.now.grid n × HasDisc from.now d n) }
 {
     let g = from.grid();
     g.rule();

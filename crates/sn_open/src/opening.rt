@@ -6,8 +6,8 @@ ghost use Rattle.sn_outline.specs.Outline.{NearTrail};
 ghost use Rattle.sn_raster.specs.Grid.{Node, IsGridOf, IsInWindow, IsRawNode, InDisc, place};
 ghost use Rattle.sn_raster.specs.Plane.{Has, IsEmpty};
 ghost use Rattle.sn_open.specs.Planes.{IsGridWith, IsOpeningPlane};
-ghost use Rattle.sn_open.specs.OnGrid.{IsCleared, IsFollowedAt, IsDrilledOn, HasRoomOn};
-ghost use Rattle.sn_open.specs.Region.{IsFollowed, IsDrilledAtCentre};
+ghost use Rattle.sn_open.specs.OnGrid.{IsCleared, IsDrilledOn, HasRoomOn};
+ghost use Rattle.sn_open.specs.Region.{IsFollowedAt, IsFollowed, IsDrilledAtCentre};
 
 use crate::allowed::Allowed;
 use crate::laws::outside;

@@ -1,7 +1,7 @@
 //! Half widths of discs of nodes, in columns, for each count of rows from the middle.
 ghost use Rattle.std.specs.Prelude.{◌≡◌, ◌↔◌, ◌+◌, ◌*◌, ◌≤◌, ◌<◌, ℕ, length};
 ghost use Rattle.sn_outline.specs.JobRule.{IsPitch};
-ghost use Rattle.sn_open.specs.Morphology.{IsWithin, AreDiscWidths};
+ghost use Rattle.sn_open.specs.Widths.{IsWithin, AreDiscWidths};
 
 use sn_geom::{REACH, half_width};
 

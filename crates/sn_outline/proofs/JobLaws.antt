@@ -1,6 +1,6 @@
 -- What follows from the rule of jobs.
-use Rattle.std.proofs.Common.{◌≡◌, inl, inr, ℕ, pos, ◌-ℤ◌, ◌≤ℤ◌, List, [], ◌∷◌, ◌++◌, length, get_or, refl, ap, subst, arith, length-append}
-use Rattle.std.proofs.lemmas.List.Elements.{Contains-append_left, Contains-append_right, Contains-append_cases, All-contains, All-nil, Contains-get_or}
+use Rattle.std.proofs.Common.{◌≡◌, ℕ, pos, ◌-ℤ◌, ◌≤ℤ◌, List, [], ◌∷◌, length, get_or, refl, subst, arith}
+use Rattle.std.proofs.lemmas.List.Elements.{All-contains, All-nil, Contains-get_or}
 use Rattle.std.specs.List.{Any, Contains}
 use Rattle.sn_geom.proofs.Ring.{sums}
 use Rattle.sn_outline.specs.declared.job.StepJob.{StepJob}
@@ -8,9 +8,8 @@ use Rattle.sn_outline.specs.declared.job.Bottom.{Bottom}
 use Rattle.sn_outline.specs.declared.job.Bottom.TheVariants.{Flat, Conical, Through}
 use Rattle.sn_outline.specs.Job.{tip_floor}
 use Rattle.sn_outline.specs.JobRule.{AreNumbered, IsProper}
-use Rattle.sn_outline.specs.JobRuleLaws.{JobWithoutSteps, AnyOrderOfSteps, ToolsAreListed, TipNearTheFloor}
+use Rattle.sn_outline.specs.JobRuleLaws.{JobWithoutSteps, SameStepsMakeAJob, ToolsAreListed, TipNearTheFloor}
 use Rattle.sn_outline.proofs.Paths.{any_none}
-use Rattle.sn_outline.proofs.Alike.{any_left, any_right, any_parts}
 
 -- ---- no steps
 no_tools : (tools : List ℕ) → AreNumbered [] (length tools) → tools ≡ []
@@ -38,34 +37,27 @@ job_without_steps job none = (
   },
 )
 
--- ---- steps in another order
-swap_contains : (front back : List StepJob) (s : StepJob) → Contains (back ++ front) s → Contains (front ++ back) s
-swap_contains front back s some =
-    elim (Contains-append_cases back front s some) [
-      | inl in_back ↦ Contains-append_right front back s in_back
-      | inr in_front ↦ Contains-append_left front back s in_front
-    ]
+-- ---- the same steps
+some_step : (P : StepJob → Type 0) (steps others : List StepJob) → ((s : StepJob) → Contains steps s → Contains others s) → Any P steps → Any P others
+some_step P steps others all (k, s, within, e, holds) = let (l, there, is) = all s (k, within, e) in (l, s, there, is, holds)
 
-swap_any : (P : StepJob → Type 0) (front back : List StepJob) → Any P (back ++ front) → Any P (front ++ back)
-swap_any P front back some =
-    elim (any_parts P back front some) [ inl in_back ↦ any_right P front back in_back | inr in_front ↦ any_left P front back in_front ]
-
-pub any_order_of_steps : AnyOrderOfSteps
-any_order_of_steps job front back is is_job =
-    let contained : (s : StepJob) → Contains (back ++ front) s → Contains job.steps s = λ s some. rw is (swap_contains front back s some) in
-    record {
-      pitch = is_job.pitch;
-      raw_box = is_job.raw_box;
-      security = is_job.security;
-      few_steps = let few = is_job.few_steps in let lengths = ap length is in omega (arith, length-append front back, length-append back front);
-      tools = λ k. (
-        λ some. (is_job.tools k).0 (rw is (swap_any (λ s. s.tool ≡ k) front back some)),
-        λ range. swap_any (λ s. s.tool ≡ k) back front (rw is at ((is_job.tools k).1 range)),
-      );
-      bodies = λ s t in_s in_t. is_job.bodies s t (contained s in_s) (contained t in_t);
-      features = λ s t in_s in_t. is_job.features s t (contained s in_s) (contained t in_t);
-      proper = λ k d within. All-contains IsProper job.steps (get_or (back ++ front) k d) is_job.proper (contained (get_or (back ++ front) k d) (Contains-get_or (back ++ front) k d within));
-    }
+pub same_steps_make_a_job : SameStepsMakeAJob
+same_steps_make_a_job job steps is_job same = (
+  λ again. again.few_steps,
+  λ few. record {
+    pitch = is_job.pitch;
+    raw_box = is_job.raw_box;
+    security = is_job.security;
+    few_steps = few;
+    tools = λ k. (
+      λ some. (is_job.tools k).0 (some_step (λ s. s.tool ≡ k) steps job.steps (λ s. (same s).0) some),
+      λ range. some_step (λ s. s.tool ≡ k) job.steps steps (λ s. (same s).1) ((is_job.tools k).1 range),
+    );
+    bodies = λ s t in_s in_t. is_job.bodies s t ((same s).0 in_s) ((same t).0 in_t);
+    features = λ s t in_s in_t. is_job.features s t ((same s).0 in_s) ((same t).0 in_t);
+    proper = λ k d within. All-contains IsProper job.steps (get_or steps k d) is_job.proper ((same (get_or steps k d)).0 (Contains-get_or steps k d within));
+  },
+)
 
 -- ---- tools and tips
 pub tools_are_listed : ToolsAreListed

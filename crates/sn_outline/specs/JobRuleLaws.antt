@@ -1,5 +1,5 @@
 -- Laws of proper steps and of the rule of jobs (this project's own).
-use Rattle.std.specs.Prelude.{◌≡◌, ◌↔◌, ◌≤◌, pos, ◌-ℤ◌, ◌≤ℤ◌, List, [], ◌++◌, length}
+use Rattle.std.specs.Prelude.{◌≡◌, ◌↔◌, ◌≤◌, pos, ◌-ℤ◌, ◌≤ℤ◌, List, [], length}
 use Rattle.std.specs.List.{Contains}
 use Rattle.sn_outline.specs.declared.job.StepJob.{StepJob}
 use Rattle.sn_outline.specs.Job.{Job, tip_floor}
@@ -11,10 +11,12 @@ JobWithoutSteps =
     (job : Job) → job.steps ≡ []
     → IsJob job ↔ (IsPitch job.pitch × AreCorners job.low job.high × IsSecurityHeight job.sec job.high.z × (job.tools ≡ []))
 
--- the order of the steps does not matter
-abbrev pub AnyOrderOfSteps : Type 0
-AnyOrderOfSteps =
-    (job : Job) (front back : List StepJob) → job.steps ≡ front ++ back → IsJob job → IsJob (record job { steps = back ++ front })
+-- neither the order of the steps matters nor how often one of them is executed: the same steps make a job exactly where
+-- they are at most 1,000
+abbrev pub SameStepsMakeAJob : Type 0
+SameStepsMakeAJob =
+    (job : Job) (steps : List StepJob) → IsJob job → ((s : StepJob) → Contains steps s ↔ Contains job.steps s)
+    → IsJob (record job { steps = steps }) ↔ (length steps ≤ 1000)
 
 -- the tools of steps have numbers in the program's list of tools, from 1
 abbrev pub ToolsAreListed : Type 0

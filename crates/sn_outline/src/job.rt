@@ -34,7 +34,7 @@ pub enum Way {
     Drill,
 }
 
-/// An executed step. Lengths are micrometres, heights and places those of the setup.
+/// An executed step. Lengths are tenths of a micrometre, heights and places those of the setup.
 #[derive(Drop)]
 pub struct StepJob {
     /// The instance number of the workingstep.
@@ -94,7 +94,7 @@ impl Job {
     /// The job of these parts: the pitch of its grid, the low and the high corner of its raw box, its security height, its
     /// steps, and the instance numbers of its tools in the order of their numbers in the program.
     ///
-    /// It is None where they do not keep the rule of jobs. All lengths are micrometres.
+    /// It is None where they do not keep the rule of jobs. All lengths are tenths of a micrometre.
     pub fn new(
         pitch: u32,
         low: Pt3,

@@ -1,5 +1,5 @@
 //! Laws of the definitions of outlines. Each function's contract states laws, and the function does nothing.
-ghost use Rattle.sn_outline.specs.JobRuleLaws.{JobWithoutSteps, AnyOrderOfSteps, ToolsAreListed, TipNearTheFloor};
+ghost use Rattle.sn_outline.specs.JobRuleLaws.{JobWithoutSteps, SameStepsMakeAJob, ToolsAreListed, TipNearTheFloor};
 ghost use Rattle.sn_outline.specs.OutlineLaws.{RectangleHasItsBorder, TrailIsItsSegments, CircleIsItsTrail, MovingTogetherChangesNothing};
 ghost use Rattle.sn_outline.specs.PolygonLaws.{CrossesRightSomewhere, CrossesEachHeightEvenly, LeftRayTellsTheSame, AnyPointIsFirst, EitherDirection, SpikeEnclosesNothing, RectangleIsItsCorners};
 
@@ -37,7 +37,7 @@ pub fn moving()
 /// What follows from the rule of jobs.
 pub fn jobs()
     ensures no_steps { JobWithoutSteps }
-    ensures any_order { AnyOrderOfSteps }
+    ensures same_steps { SameStepsMakeAJob }
     ensures tools { ToolsAreListed }
     ensures tip { TipNearTheFloor }
 {}

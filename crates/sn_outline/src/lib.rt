@@ -1,6 +1,6 @@
 //! Outlines and jobs: what the executed steps of a part cut, in the frame of the setup (after ISO 14649-10 and ISO 14649-11).
 //!
-//! Lengths are whole micrometres.
+//! Lengths are whole tenths of a micrometre.
 #![tactic(auto)]
 
 mod job;

@@ -5,3 +5,5 @@ pub const MOST_STEPS: usize = 1_000;
 
 /// The greatest number of points in the polyline of an outline.
 pub const MOST_POINTS: usize = 1_000;
+
+const _: () = prove!(MOST_STEPS == 1_000 && MOST_POINTS == 1_000);

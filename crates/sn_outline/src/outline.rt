@@ -9,7 +9,7 @@ pub type Points = Items<Pt>;
 /// Shapes, seen as their list.
 pub type Shapes = Items<Shape>;
 
-/// A closed shape in the plane. Lengths are micrometres.
+/// A closed shape in the plane. Lengths are tenths of a micrometre.
 #[derive(Drop)]
 pub enum Shape {
     /// A rectangle, by its low and its high corner.

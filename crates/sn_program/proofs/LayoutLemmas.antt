@@ -8,10 +8,10 @@ use Rattle.sn_geom.specs.Machine.{says_something}
 use Rattle.sn_geom.specs.Meaning.{Means}
 use Rattle.sn_geom.specs.MachineExamples.{word}
 use Rattle.sn_geom.specs.MeaningLaws.{ProgramsHaveOneMeaning}
-use Rattle.sn_gwrite.specs.AgreementExamples.{one_hole}
+use Rattle.sn_gwrite.specs.AgreementExamples.{one_hole, one_hole_acts, mm}
 use Rattle.sn_gwrite.specs.Program.{end_text}
 use Rattle.sn_program.specs.Layout.{HaveSameWords, SayTheSame}
-use Rattle.sn_program.specs.LayoutExamples.{one_hole_otherwise, one_hole_acts, LayoutsOfALine, OtherLayoutsMeanTheSame}
+use Rattle.sn_program.specs.LayoutExamples.{one_hole_otherwise, LayoutsOfALine, OtherLayoutsMeanTheSame}
 use Rattle.sn_program.proofs.AlikeLemmas.{same_words, words_may_swap, equivalent}
 use Rattle.sn_gwrite.proofs.ItemReadings.{clean}
 use Rattle.sn_program.proofs.ReadLemmas.{can_be_read, block_of, line_is_read, program_means}
@@ -54,7 +54,7 @@ layouts_of_a_line = (
   (in_order _ _ refl refl refl refl refl refl, (ordered _ _ refl refl refl refl (words_may_swap [] [] _ _ (λ same. absurd (omega arith))) refl, tt)),
   (
     in_order _ _ refl refl refl refl refl refl,
-    (in_order _ _ refl refl refl refl refl refl, (ordered _ _ refl refl refl refl (words_may_swap [] (word 89 (pos 10000) ∷ []) _ _ (λ same. absurd (omega arith))) refl, tt)),
+    (in_order _ _ refl refl refl refl refl refl, (ordered _ _ refl refl refl refl (words_may_swap [] (word 89 (mm 10) ∷ []) _ _ (λ same. absurd (omega arith))) refl, tt)),
   ),
   (in_order _ _ refl refl refl refl refl refl, (in_order _ _ refl refl refl refl refl refl, tt)),
   (in_order _ _ refl refl refl refl refl refl, (in_order _ _ refl refl refl refl refl refl, tt)),

@@ -1,6 +1,6 @@
 //! The program of a job: its text, what the machine does by it, and that it is good for the job.
 //!
-//! Lengths are whole micrometres.
+//! Lengths are whole tenths of a micrometre.
 #![tactic(auto)]
 
 pub mod laws;

@@ -8,6 +8,7 @@ use Rattle.sn_geom.specs.Length.{IsLength}
 use Rattle.sn_geom.specs.Sweep.{Near, offset_at, square}
 use Rattle.sn_raster.specs.Grid.{first_place, last_place, half_up}
 use Rattle.sn_raster.specs.Reach.{IsBeside}
+use Rattle.sn_raster.specs.ReachLaws.{NearIsInABox}
 use Rattle.sn_raster.proofs.Axis.{from, up_to}
 
 -- ---- one axis
@@ -74,6 +75,9 @@ first_beside d g a b k some beside = (from k (int_min a b -ℤ pos (half_up d)) 
 
 last_beside : (d g : ℕ) (a b k : ℤ) → 0 < g → IsBeside d a b (k *ℤ pos g) → k ≤ℤ last_place g (int_max a b +ℤ pos (half_up d))
 last_beside d g a b k some beside = (up_to k (int_max a b +ℤ pos (half_up d)) g some).1 beside.high
+
+pub near_is_in_a_box : NearIsInABox
+near_is_in_a_box d a b p near = (near_across d a b p near, near_up d a b p near)
 
 -- ---- places computed
 pub first_is_beside : (d g h : ℕ) (a b k lowest first : ℤ) → 0 < g → lowest ≡ int_min a b → h ≡ half_up d → first ≡ first_place g (lowest -ℤ pos h) → IsBeside d a b (k *ℤ pos g) → first ≤ℤ k

@@ -7,8 +7,9 @@ use Rattle.std.proofs.lemmas.Int.{ints, clamps}
 use Rattle.std.proofs.Math.Nat.{mul_comm}
 use Rattle.sn_raster.specs.Grid.{Grid, Node, IsInWindow, places}
 use Rattle.sn_raster.specs.Plane.{Plane, Has, mark_of}
-use Rattle.sn_raster.specs.PlaneLaws.{PlanesAreTheirNodes}
+use Rattle.sn_raster.specs.PlaneLaws.{PlanesAreTheirNodes, NodesHaveMarks, MarksAreNodes}
 use Rattle.sn_raster.proofs.GridParts.{some_left}
+use Rattle.sn_raster.proofs.Marks.{mark_below, one_node}
 
 -- the node of a mark
 abbrev pub node_of : Grid → ℕ → Node
@@ -83,3 +84,9 @@ lone_node a b g h marks others view view' grids full (k, within, on, off) =
     let Q : ℕ → Type 0 = λ m. IsTrue (get_or others m false) in
     let lacks : ¬ Has b n = (λ has. off (subst Q (mark_of_node g k) (subst P same (subst (λ (p : Plane). Has p n) (sym view') has).marked))) in
     (n, there, lacks)
+
+pub nodes_have_marks : NodesHaveMarks
+nodes_have_marks g n window = (mark_below g n window, λ other in_window same. one_node g other n in_window window same)
+
+pub marks_are_nodes : MarksAreNodes
+marks_are_nodes plane k below = (node_of plane.grid k, node_in_window plane.grid k below, mark_of_node plane.grid k, has_mark plane.grid plane.marks k below)

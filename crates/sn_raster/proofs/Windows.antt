@@ -4,7 +4,7 @@ use Rattle.std.proofs.lemmas.List.Elements.{All-nil, All-cons, All-head, All-tai
 use Rattle.std.proofs.lemmas.Int.{ints, clamps}
 use Rattle.sn_outline.specs.declared.job.StepJob.{StepJob}
 use Rattle.sn_raster.specs.Grid.{Node, place, places, first_place, last_place, IsPoint}
-use Rattle.sn_raster.specs.GridLaws.{MarginIsGreatest, PlacesAreCounted, WindowIsGrown, RawNodesAreTheJobs, FitsByItsNodes}
+use Rattle.sn_raster.specs.GridLaws.{MarginIsGreatest, PlacesAreBetween, PlacesAreCounted, WindowIsGrown, RawNodesAreTheJobs, FitsByItsNodes}
 use Rattle.sn_raster.proofs.Axis.{from, up_to, in_range, some_place}
 use Rattle.sn_raster.proofs.GridParts.{fits_iff, some_product, some_left, some_right}
 
@@ -21,6 +21,9 @@ margin_is_greatest (s ∷ steps) m =
           let later = rest.1 (All-tail (IsWithin m) s steps all) in
           omega (arith, here.0, here.1, here.2)),
     )
+
+pub places_are_between : PlacesAreBetween
+places_are_between pitch k z some = (from k z pitch some, up_to k z pitch some)
 
 pub places_are_counted : PlacesAreCounted
 places_are_counted first last = ((λ none. omega (arith, ints, clamps)), (λ some. omega (arith, ints, clamps)))

@@ -4,13 +4,20 @@ use Rattle.std.specs.List.{All}
 use Rattle.sn_geom.specs.declared.limits.TheConstants.{MOST_NODES}
 use Rattle.sn_outline.specs.declared.job.StepJob.{StepJob}
 use Rattle.sn_outline.specs.Job.{Job}
-use Rattle.sn_raster.specs.Grid.{Grid, Node, place, places, greatest_margin, IsRawNode, IsInWindow, IsInRaw, IsGridOf, IsPoint, FitsGrid}
+use Rattle.sn_raster.specs.Grid.{Grid, Node, place, places, first_place, last_place, greatest_margin, IsRawNode, IsInWindow, IsInRaw, IsGridOf, IsPoint, FitsGrid}
 
 -- the margin is the least to which no half diameter of a tool or a corner and no side allowance comes up
 abbrev pub MarginIsGreatest : Type 0
 MarginIsGreatest =
     (steps : List StepJob) (m : ℕ)
     → greatest_margin steps ≤ m ↔ All (λ s. (s.body.d ≤ 2 * m) × (s.side ≤ m) × (s.corner ≤ 2 * m)) steps
+
+-- the first place from a coordinate on is the least that is not below it, and the last up to one the greatest that is not
+-- above it
+abbrev pub PlacesAreBetween : Type 0
+PlacesAreBetween =
+    (pitch : ℕ) (k z : ℤ) → 0 < pitch
+    → (first_place pitch z ≤ℤ k ↔ (z ≤ℤ (k *ℤ pos pitch))) × (k ≤ℤ last_place pitch z ↔ ((k *ℤ pos pitch) ≤ℤ z))
 
 -- places are counted with both ends
 abbrev pub PlacesAreCounted : Type 0

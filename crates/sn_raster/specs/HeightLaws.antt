@@ -1,5 +1,6 @@
 -- Laws of the material that is left after passes (this project's own).
-use Rattle.std.specs.Prelude.{◌≡◌, ℤ, List, [], ◌∷◌, ◌++◌}
+use Rattle.std.specs.Prelude.{◌≡◌, ◌↔◌, ℤ, List, [], ◌∷◌, ◌++◌}
+use Rattle.std.specs.List.{Contains}
 use Rattle.sn_geom.specs.declared.units.Cell.{Cell}
 use Rattle.sn_geom.specs.Sweep.{Touch}
 use Rattle.sn_outline.specs.Job.{Job}
@@ -11,11 +12,11 @@ use Rattle.sn_raster.specs.Heights.{Pass, IsMaterial, low_end, HeightMap, IsHeig
 abbrev pub CutStaysCut : Type 0
 CutStaysCut = (job : Job) (earlier later : List Pass) (c : Cell) → IsMaterial job (earlier ++ later) c → IsMaterial job earlier c
 
--- the order of two passes does not matter for what is left
-abbrev pub OrderDoesNotMatter : Type 0
-OrderDoesNotMatter =
-    (job : Job) (earlier : List Pass) (p q : Pass) (c : Cell)
-    → IsMaterial job (earlier ++ p ∷ q ∷ []) c → IsMaterial job (earlier ++ q ∷ p ∷ []) c
+-- neither the order of passes nor how often one is made matters for what is left: the same passes leave the same
+abbrev pub SamePassesLeaveTheSame : Type 0
+SamePassesLeaveTheSame =
+    (job : Job) (some others : List Pass) (c : Cell) → ((pass : Pass) → Contains some pass ↔ Contains others pass)
+    → IsMaterial job some c ↔ IsMaterial job others c
 
 -- a pass leaves the cells that it does not touch
 abbrev pub UntouchedIsLeft : Type 0

@@ -7,4 +7,5 @@ pub mod Neighbours
 pub mod Plane
 pub mod PlaneLaws
 pub mod Reach
+pub mod ReachLaws
 pub mod RowTurns

@@ -1,4 +1,4 @@
--- PRIVATE: which places of an axis may be near a segment (the code's own words).
+-- MEANING: what may be near a segment on one axis (this project's own).
 use Rattle.std.specs.Prelude.{ℕ, ℤ, pos, ◌+ℤ◌, ◌-ℤ◌, ◌≤ℤ◌}
 use Rattle.std.specs.Int.{int_min, int_max}
 use Rattle.sn_raster.specs.Grid.{half_up}

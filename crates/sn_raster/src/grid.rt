@@ -15,7 +15,7 @@ pub struct Big;
 
 /// The grid of a job. It keeps the rule of grids.
 ///
-/// A node (i, j) is at the point (i * pitch, j * pitch). The pitch and the heights are micrometres.
+/// A node (i, j) is at the point (i * pitch, j * pitch). The pitch and the heights are tenths of a micrometre.
 #[derive(Clone, Copy, Debug, PartialEq, Eq)]
 pub struct Grid {
     pub pitch: u32,

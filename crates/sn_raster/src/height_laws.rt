@@ -1,12 +1,12 @@
 //! Laws of the material that is left after passes.
-ghost use Rattle.sn_raster.specs.HeightLaws.{CutStaysCut, OrderDoesNotMatter, UntouchedIsLeft, TopIsOne, CellsAreCounted};
+ghost use Rattle.sn_raster.specs.HeightLaws.{CutStaysCut, SamePassesLeaveTheSame, UntouchedIsLeft, TopIsOne, CellsAreCounted};
 
 use sn_geom::laws::touching;
 
 /// Laws of material.
 pub fn materials()
     ensures stays { CutStaysCut }
-    ensures order { OrderDoesNotMatter }
+    ensures same_passes { SamePassesLeaveTheSame }
     ensures untouched { UntouchedIsLeft }
 {
     touching();

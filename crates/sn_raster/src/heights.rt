@@ -20,7 +20,7 @@ use sn_outline::Job;
 use std::alloc::Global;
 use std::marker::Model;
 
-/// The height of the material that is left over each node of the window of a grid, in micrometres.
+/// The height of the material that is left over each node of the window of a grid, in tenths of a micrometre.
 #[derive(Drop)]
 pub struct Heights {
     grid: Grid,

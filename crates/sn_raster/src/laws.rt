@@ -1,10 +1,12 @@
 //! Laws of grids and of planes.
-ghost use Rattle.sn_raster.specs.GridLaws.{MarginIsGreatest, PlacesAreCounted, WindowIsGrown, RawNodesAreTheJobs, FitsByItsNodes};
-ghost use Rattle.sn_raster.specs.PlaneLaws.{PlanesAreTheirNodes};
+ghost use Rattle.sn_raster.specs.GridLaws.{MarginIsGreatest, PlacesAreBetween, PlacesAreCounted, WindowIsGrown, RawNodesAreTheJobs, FitsByItsNodes};
+ghost use Rattle.sn_raster.specs.PlaneLaws.{PlanesAreTheirNodes, NodesHaveMarks, MarksAreNodes};
+ghost use Rattle.sn_raster.specs.ReachLaws.{NearIsInABox};
 
 /// Laws of grids.
 pub fn grids()
     ensures margin { MarginIsGreatest }
+    ensures between { PlacesAreBetween }
     ensures count { PlacesAreCounted }
     ensures window { WindowIsGrown }
     ensures raw { RawNodesAreTheJobs }
@@ -13,5 +15,12 @@ pub fn grids()
 
 /// Laws of planes.
 pub fn planes()
-    ensures { PlanesAreTheirNodes }
+    ensures nodes { PlanesAreTheirNodes }
+    ensures marks { NodesHaveMarks }
+    ensures marked { MarksAreNodes }
+{}
+
+/// Laws of what may be near a segment.
+pub fn nearness()
+    ensures { NearIsInABox }
 {}

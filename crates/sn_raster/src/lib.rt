@@ -1,6 +1,6 @@
 //! Grids of jobs, and planes of nodes over them.
 //!
-//! Lengths are whole micrometres.
+//! Lengths are whole tenths of a micrometre.
 #![tactic(auto)]
 
 mod beside;

@@ -18,7 +18,7 @@ use sn_open::{Required, columns_of, has_at, rows_of};
 use sn_outline::{Job, StepJob};
 use sn_raster::{Bits, Grid, Heights};
 
-/// Heights in micrometres, from the first to below the second.
+/// Heights in tenths of a micrometre, from the first to below the second.
 #[derive(Clone, Copy)]
 pub(crate) struct Band {
     pub from: i32,

@@ -1,6 +1,6 @@
 //! The check of a program for a part: line by line, in pieces, to its verdict.
 //!
-//! Lengths are whole micrometres.
+//! Lengths are whole tenths of a micrometre.
 #![tactic(auto)]
 
 mod acts;

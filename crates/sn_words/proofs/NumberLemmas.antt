@@ -4,9 +4,8 @@ use Rattle.std.specs.Prelude.{ℤ, Result, Ok, Err, IfOk, IfSome, IfNone, unsign
 use Rattle.std.specs.Result.{result_ok}
 use Rattle.sn_geom.specs.Decimal.{Decimal, IsNumber, ScalesTo}
 use Rattle.sn_geom.specs.declared.decimal.DecFault.{DecFault}
-use Rattle.sn_geom.specs.declared.limits.TheConstants.{PER_MM, REACH}
+use Rattle.sn_geom.specs.declared.limits.TheConstants.{PER_MM, PER_ONE, REACH, MOST_VALUE}
 use Rattle.sn_words.specs.WordForms.{IsLengthText, IsValueText}
-use Rattle.sn_words.specs.declared.limits.TheConstants.{PER_ONE, MOST_VALUE}
 
 pub length_found : (text : List ℕ) (d : Decimal) (r : Result ℤ DecFault) → IsNumber text d → IfOk r (λ um. ScalesTo d PER_MM um)
     → IfOk r (λ um. unsigned_abs um ≤ REACH) → IfSome (result_ok r) (λ um. IsLengthText text um)

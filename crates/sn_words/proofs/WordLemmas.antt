@@ -5,11 +5,10 @@ use Rattle.std.specs.Char.{digit_value, IsAsciiAlphabetic}
 use Rattle.std.specs.Prelude.{◌≤◌, ℤ, IfSome, All, unsigned_abs}
 use Rattle.std.specs.Str.Parse.{AllDigits, IsNumeral}
 use Rattle.sn_geom.specs.Decimal.{Decimal, Sign, unsigned, plus, minus, Exponent, sign_text, fraction_text, exponent_text, IsNumber, IsNumberText, ScalesTo, HasOneNumber, ScalesToOne}
-use Rattle.sn_geom.specs.declared.limits.TheConstants.{PER_MM}
+use Rattle.sn_geom.specs.declared.limits.TheConstants.{PER_MM, PER_ONE, MOST_VALUE}
 use Rattle.sn_geom.specs.declared.units.Pt3.{Pt3}
 use Rattle.sn_words.specs.Reading.{cut_at}
 use Rattle.sn_words.specs.WordForms.{IsSeedWord, IsPitchWord, IsLengthText, ArePointTexts, comma, IsName, IsNameByte, IsValueText, IsAssignmentWord}
-use Rattle.sn_words.specs.declared.limits.TheConstants.{PER_ONE, MOST_VALUE}
 use Rattle.sn_words.specs.declared.options.Assign.{Assign}
 use Rattle.sn_words.proofs.Cutting.{Lacks, Lacks-append, cut_at-front, cut_at-joined, same_parts}
 

@@ -155,8 +155,5 @@ pub record Departs (accepted : List (List ℕ) → Type 0) (words : List (List �
   pub before : Begins accepted (take (place - 1) words)
   pub at : (place ≤ length words → ¬ Begins accepted (take place words)) × (length words < place → (place ≡ length words + 1) × ¬ accepted words)
 
-abbrev pub BeginsCommand : List (List ℕ) → Type 0
-BeginsCommand words = Begins IsAccepted words
-
 abbrev pub DepartsAt : List (List ℕ) → ℕ → Type 0
 DepartsAt words place = Departs IsAccepted words place

@@ -2,8 +2,7 @@
 use Rattle.std.specs.Prelude.{◌≢◌, ◌≤◌, ℕ, List, Option, unsigned_abs, ◌<ℤ◌, All}
 use Rattle.std.specs.List.{AllPairs}
 use Rattle.std.specs.Option.{ForSome}
-use Rattle.sn_geom.specs.declared.limits.TheConstants.{LEAST_PITCH, MOST_PITCH}
-use Rattle.sn_words.specs.declared.limits.TheConstants.{MOST_VALUE}
+use Rattle.sn_geom.specs.declared.limits.TheConstants.{LEAST_PITCH, MOST_PITCH, MOST_VALUE}
 use Rattle.sn_words.specs.declared.options.Assign.{Assign}
 use Rattle.sn_words.specs.declared.options.Command.{Command}
 use Rattle.sn_words.specs.declared.options.RawBox.{RawBox}

@@ -5,10 +5,10 @@ use Rattle.std.specs.List.{join_with_byte}
 use Rattle.std.specs.Str.Parse.{IsNumeral, digits_value}
 use Rattle.sn_geom.specs.Decimal.{Decimal, IsNumber, ScalesTo}
 use Rattle.sn_geom.specs.Length.{IsLength}
-use Rattle.sn_geom.specs.declared.limits.TheConstants.{PER_MM}
+use Rattle.sn_geom.specs.declared.limits.TheConstants.{PER_MM, PER_ONE}
 use Rattle.sn_geom.specs.declared.units.Pt3.{Pt3}
 use Rattle.sn_words.specs.Options.{IsBox, IsPitch, HasValue}
-use Rattle.sn_words.specs.declared.limits.TheConstants.{PER_UM, PER_ONE, MOST_SEED}
+use Rattle.sn_words.specs.declared.limits.TheConstants.{PER_UM, MOST_SEED}
 use Rattle.sn_words.specs.declared.options.Assign.{Assign}
 use Rattle.sn_words.specs.declared.options.RawBox.{RawBox}
 

@@ -13,6 +13,6 @@ mod words;
 
 pub use command_line::values;
 pub use fault::WordFault;
-pub use limits::{DEFAULT_PITCH, MOST_SEED, MOST_VALUE, PER_ONE, PER_UM};
+pub use limits::{DEFAULT_PITCH, MOST_SEED, PER_UM};
 pub use options::{Assign, Assigns, Command, Opts, RawBox};
 pub use words::Words;

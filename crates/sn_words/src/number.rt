@@ -8,9 +8,11 @@ ghost use Rattle.sn_words.specs.Reading.{cut_at};
 ghost use Rattle.sn_words.specs.declared.options.Assign.{Assign};
 ghost use Rattle.sn_words.specs.WordForms.{ArePointTexts, IsAssignmentWord, IsBoxWord, IsFileWord, IsLengthText, IsName, IsNameByte, IsPitchWord, IsSeedWord, IsValueText};
 
-use crate::limits::{MOST_VALUE, PER_ONE, PER_UM};
+use crate::limits::PER_UM;
 use crate::options::RawBox;
-use sn_geom::{LEAST_PITCH, MOST_PITCH, Pt3, Um, one_reading, one_rounding, read_dec};
+use sn_geom::{
+    LEAST_PITCH, MOST_PITCH, MOST_VALUE, PER_ONE, Pt3, Um, one_reading, one_rounding, read_dec,
+};
 
 /// Whether a word names a file.
 pub(crate) fn is_file_word(word: &[u8]) -> bool

@@ -55,11 +55,11 @@ T1 M6
 G43 H1
 S720 M3
 F300
-G0 Z20.000
-G0 X10.000 Y10.000
-G0 Z11.000
-G1 Z4.000
-G0 Z20.000
+G0 Z20.0000
+G0 X10.0000 Y10.0000
+G0 Z11.0000
+G1 Z4.0000
+G0 Z20.0000
 ";
 
 /// Two more workingsteps for the sample part: one that drills its hole again, and one that drills another hole with another
@@ -87,22 +87,22 @@ T1 M6
 G43 H1
 S720 M3
 F300
-G0 Z20.000
-G0 X10.000 Y10.000
-G0 Z11.000
-G1 Z4.000
-G0 Z20.000
+G0 Z20.0000
+G0 X10.0000 Y10.0000
+G0 Z11.0000
+G1 Z4.0000
+G0 Z20.0000
 (WS #39)
 (WS #30)
 T2 M6
 G43 H2
 S720 M3
 F300
-G0 Z20.000
-G0 X4.000 Y16.000
-G0 Z11.000
-G1 Z4.000
-G0 Z20.000
+G0 Z20.0000
+G0 X4.0000 Y16.0000
+G0 Z11.0000
+G1 Z4.0000
+G0 Z20.0000
 ";
 
 /// The command over the sample part and a program, at this pitch.
@@ -120,7 +120,7 @@ const ROOM: usize = 16_384;
 /// The counts of the sample part at a pitch of one millimetre.
 const COUNTS: &str = "steps 1
 grid 29 29
-ws 4 tool 1 strokes 1 layers 1 lifts 1 cells 294000
+ws 4 tool 1 strokes 1 layers 1 lifts 1 cells 2940000
 ";
 
 /// How a command over the files `one.stp` and `one.ngc` ends: its status, output and errors.
@@ -213,7 +213,7 @@ fn parts_are_compiled(rt: HostRuntime) -> Result<(), Fail> {
 #[test]
 fn parts_are_refused(rt: HostRuntime) -> Result<(), Fail> {
     let thin = SAMPLE.replace(rt.alloc(), "DIMENSION(8.", "DIMENSION(1.")?;
-    let uncovered = "stepmill: uncovered #8 i 10 j 9 z 4000\n";
+    let uncovered = "stepmill: uncovered #8 i 10 j 9 z 40000\n";
     compiles_to(&rt, thin.as_str(), Status::Uncovered, "", uncovered)
 }
 
@@ -222,19 +222,19 @@ fn programs_are_judged(rt: HostRuntime) -> Result<(), Fail> {
     let program = with_end(&rt, PROGRAM)?;
     for (piece, other, out) in [
         (
-            "G1 Z4.000",
-            "G0 Z4.000",
-            "no: line 12: rapid in material at i 10 j 6 z 4000\n",
+            "G1 Z4.0000",
+            "G0 Z4.0000",
+            "no: line 12: rapid in material at i 10 j 6 z 40000\n",
         ),
         (
-            "G0 Z11.000\nG1 Z4.000\n",
+            "G0 Z11.0000\nG1 Z4.0000\n",
             "",
-            "no: #8 uncovered at i 10 j 9 z 4000\n",
+            "no: #8 uncovered at i 10 j 9 z 40000\n",
         ),
         (END, "%\n", "no: no end\n"),
         (
-            "F300\nG0 Z20.000",
-            "F300\nG0 X10.000",
+            "F300\nG0 Z20.0000",
+            "F300\nG0 X10.0000",
             "no: line 9: lost axis\n",
         ),
         (program.as_str(), "", "no: no end\n"),
@@ -253,7 +253,7 @@ fn unreachable_parts_are_judged(rt: HostRuntime) -> Result<(), Fail> {
     is_end(
         &end,
         Status::No,
-        "no: #8 uncovered at i 10 j 9 z 4000\n",
+        "no: #8 uncovered at i 10 j 9 z 40000\n",
         "",
     )?;
     let short = end_of(&rt, "verify one.stp", SAMPLE, program.as_str(), None, None)?;

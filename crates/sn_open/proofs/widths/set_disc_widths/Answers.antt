@@ -1,5 +1,5 @@
 use Rattle.std.proofs.Common.{arith}
-use Rattle.sn_open.specs.Morphology.{IsWithin}
+use Rattle.sn_open.specs.Widths.{IsWithin}
 use Rattle.sn_open.proofs.WidthLemmas.{none_set, one_set, all_set}
 use Rattle.sn_open.proofs.widths.set_disc_widths.Goals as goal
 

@@ -1,4 +1,4 @@
-use Rattle.sn_open.specs.Morphology.{IsWithin}
+use Rattle.sn_open.specs.Widths.{IsWithin}
 use Rattle.sn_open.proofs.WidthLemmas.{AreSet}
 use Rattle.sn_open.proofs.widths.set_disc_widths.Given as goal
 

@@ -1,7 +1,7 @@
 use Rattle.std.proofs.Common.{◌≡◌, ◌*◌, ◌↔◌, ap, ◌∙◌, subst}
 use Rattle.sn_raster.specs.Grid.{Grid, Node, IsGrid, IsInWindow, IsInRaw}
 use Rattle.sn_raster.specs.Plane.{Has}
-use Rattle.sn_open.specs.Morphology.{IsClear}
+use Rattle.sn_open.specs.Morphology.{HasDisc}
 use Rattle.sn_open.specs.OnGrid.{KeepsSideOn}
 use Rattle.sn_open.proofs.RegionLemmas.{kept_side}
 use Rattle.sn_open.proofs.allowed.Allowed.fill_nodes.Goals as goal
@@ -24,5 +24,5 @@ returns-clause-nodes c =
     c.fill.ensures.nodes c.invert.ensures.nodes
     (subst (λ (h : Grid). (n : Node) → Has kept n ↔ (Has refused n × IsInRaw h n)) room c.keep_raw.ensures.nodes)
     c.invert-2.ensures.nodes
-    (subst (λ (h : Grid). (n : Node) → Has nodes n ↔ (IsInWindow h n × IsClear spare (2 * c.args.side) n)) room c.erode.ensures.nodes) in
+    (subst (λ (h : Grid). (n : Node) → Has nodes n ↔ (IsInWindow h n × HasDisc spare (2 * c.args.side) n)) room c.erode.ensures.nodes) in
     subst (λ (h : Grid). (n : Node) → Has nodes n ↔ (IsInWindow h n × KeepsSideOn h c.args.o.now c.args.side n)) (ap (λ s. s.plane.grid) c.self.view_is) is

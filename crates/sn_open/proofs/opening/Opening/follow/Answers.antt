@@ -1,7 +1,7 @@
 use Rattle.std.proofs.Common.{◌↔◌, ap, ◌∙◌, subst}
 use Rattle.sn_raster.specs.Grid.{Grid, Node, IsInWindow, IsInRaw}
 use Rattle.sn_raster.specs.Plane.{Has}
-use Rattle.sn_open.specs.OnGrid.{IsFollowedAt}
+use Rattle.sn_open.specs.Region.{IsFollowedAt}
 use Rattle.sn_open.proofs.OpeningLemmas.{followed}
 use Rattle.sn_open.proofs.opening.Opening.follow.Goals as goal
 

@@ -1,7 +1,7 @@
 use Rattle.std.proofs.Common.{◌↔◌, ap, ◌∙◌, subst}
 use Rattle.sn_raster.specs.Grid.{Grid, Node, IsInRaw}
 use Rattle.sn_raster.specs.Plane.{Has}
-use Rattle.sn_open.specs.Morphology.{IsClear, IsNearOne, HasBlock}
+use Rattle.sn_open.specs.Morphology.{HasDisc, IsNearOne, HasBlock}
 use Rattle.sn_open.proofs.UpdateLemmas.{of_grid}
 use Rattle.sn_open.proofs.OpeningLemmas.{IsMaking, rounded, required_nodes}
 use Rattle.sn_open.proofs.required.Required.refill_by.Goals as goal
@@ -34,7 +34,7 @@ returns-clause-nodes c = λ job of.
     let good_g = c.invert-2.ensures.grid ∙ bad_g in
     let last_g = ap (λ a. a.plane.grid) c.keep_blocks.ensures.allowed ∙ kept_g in
     required_nodes g job s near c.invert.new.self bad good c.keep_blocks.new.to c.keep_raw-2.new.to making
-    (rounded g job s cells centres near making same are (of_grid (IsClear cells.plane s.corner) centres _ g same c.erode.ensures.nodes) centres_g
+    (rounded g job s cells centres near making same are (of_grid (HasDisc cells.plane s.corner) centres _ g same c.erode.ensures.nodes) centres_g
     (of_grid (IsNearOne centres s.corner) near _ g dilated_g c.dilate.ensures.nodes))
     near_g bad_g good_g c.invert.ensures.nodes
     (subst (λ (h : Grid). (n : Node) → Has bad n ↔ (Has c.invert.new.self n × IsInRaw h n)) kept_g c.keep_raw.ensures.nodes)
