@@ -1,3 +1,4 @@
+pub mod AlongLemmas
 pub mod ClearingLemmas
 pub mod ColumnLemmas
 pub mod CoverLemmas
@@ -7,6 +8,7 @@ pub mod PlaceLemmas
 pub mod ReachLemmas
 pub mod RowLemmas
 pub mod RunLemmas
+pub mod SameStrokes
 pub mod StrokeLemmas
 pub mod SurfaceLaws
 pub mod SweptLemmas

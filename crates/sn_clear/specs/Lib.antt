@@ -1,3 +1,4 @@
+pub mod ClearingLaws
 pub mod Columns
 pub mod Field
 pub mod Places

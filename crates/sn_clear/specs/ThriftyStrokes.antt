@@ -1,6 +1,5 @@
 -- MEANING: thrifty strokes of a step on its grid (this project's own).
 use Rattle.std.specs.Prelude.{◌≡◌, ℕ, List, map, Contains}
-use Rattle.sn_outline.specs.JobRule.{IsPitch}
 use Rattle.sn_outline.specs.declared.job.StepJob.{StepJob}
 use Rattle.sn_raster.specs.Grid.{Grid, Node, place, InDisc}
 use Rattle.sn_raster.specs.Plane.{Plane, Has}
@@ -9,7 +8,7 @@ use Rattle.sn_clear.specs.declared.spot.Run.{Run}
 use Rattle.sn_clear.specs.declared.spot.Spot.{Spot}
 use Rattle.sn_clear.specs.Window.{node_at}
 use Rattle.sn_clear.specs.Columns.{IsCentreOf}
-use Rattle.sn_clear.specs.Strokes.{clearing_strokes, field_of, row_step, stroke_of}
+use Rattle.sn_clear.specs.Strokes.{field_of, row_step, stroke_of}
 use Rattle.sn_clear.specs.Thrift.{AreThrifty}
 
 -- a free centre whose disc holds a target
@@ -25,10 +24,3 @@ pub record AreThriftyStrokes (step : StepJob) (g : Grid) (centres targets : Plan
   pub strokes_are : strokes ≡ map (stroke_of g) runs
   pub thrifty : AreThrifty (field_of g step.body.d centres targets) (row_step step g.pitch) targets.marks runs
   pub hold : (run : Run) → Contains runs run → (c : Spot) → IsCentreOf run c → HoldsTarget g step.body.d centres targets (node_at g c.column c.row)
-
--- where each target is in the disc of a free centre the strokes of the step are thrifty
-abbrev pub ClearingStrokesAreThrifty : Type 0
-ClearingStrokesAreThrifty =
-    (step : StepJob) (g : Grid) (centres targets : Plane) → IsPitch g.pitch → centres.grid ≡ g → targets.grid ≡ g
-    → ((t : Node) → Has targets t → (c : Node) × Has centres c × InDisc g.pitch step.body.d (place g.pitch c) t)
-    → AreThriftyStrokes step g centres targets (clearing_strokes step g centres targets)

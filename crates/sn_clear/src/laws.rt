@@ -1,6 +1,6 @@
 //! Laws of the strokes of a step that clears its feature.
 ghost use Rattle.sn_clear.specs.StrokeLaws.{StrokesLieOnUsefulCentres, UsefulCentresHoldTargets, StrokesCoverByTheirCentres, DiscsAreThoseOfTheGrid, RowsAreMaximalRuns, MultiplesAndTheLastAreSelected, LastRowIsSelected, RowNumbersCountUsefulRows, RowPlacesCountSelectedRows, DirectionsAlternate, ColumnsCoverOpenTargets, HeldByCentres, StrokesAreThrifty, OneListIsThrifty};
-ghost use Rattle.sn_clear.specs.ThriftyStrokes.{ClearingStrokesAreThrifty};
+ghost use Rattle.sn_clear.specs.ClearingLaws.{StrokesLieOnCentres, TargetsAreAlongStrokes, ClearingStrokesAreThrifty, NoStrokesWithoutTargets, SameNodesSameStrokes};
 
 /// Laws of where strokes lie.
 pub fn places()
@@ -32,7 +32,11 @@ pub fn thrift()
     ensures one_list { OneListIsThrifty }
 {}
 
-/// A law of the strokes of a step on its grid.
+/// Laws of the strokes of a step on its grid.
 pub fn clearing()
-    ensures { ClearingStrokesAreThrifty }
+    ensures lie { StrokesLieOnCentres }
+    ensures along { TargetsAreAlongStrokes }
+    ensures thrifty { ClearingStrokesAreThrifty }
+    ensures none { NoStrokesWithoutTargets }
+    ensures same { SameNodesSameStrokes }
 {}

@@ -14,6 +14,7 @@ use Rattle.sn_outline.specs.declared.job.Way.{Way}
 use Rattle.sn_outline.specs.declared.job.Way.TheVariants as way
 use Rattle.sn_raster.specs.Heights.{Pass}
 use Rattle.sn_open.specs.declared.stroke.Stroke.{Stroke}
+use Rattle.sn_clear.specs.ClearingLaws.{SameNodesSameStrokes}
 use Rattle.sn_link.specs.declared.moves.Move.{Move}
 use Rattle.sn_link.specs.declared.moves.Move.TheVariants.{Rapid, Feed}
 use Rattle.sn_link.specs.declared.step_plan.Planned.{Planned}
@@ -115,10 +116,10 @@ pub counts_none : (moves : List Move) (strokes : List Stroke) → moves ≡ [] �
 counts_none moves strokes none = ap (λ (ms : List Move). strokes_in ms strokes) none
 
 module _ (job : Job) (step : StepJob) (passes : List Pass) where
-  pub counted : (strokes : List Stroke) (above : ℤ) (tip : Tip) (planned : Planned) → IsJob job → 1 ≤ step.axial → IsAtSecurity job tip → IsHighest job step passes above
+  pub counted : SameNodesSameStrokes → (strokes : List Stroke) (above : ℤ) (tip : Tip) (planned : Planned) → IsJob job → 1 ≤ step.axial → IsAtSecurity job tip → IsHighest job step passes above
       → AreStrokes job step strokes → IsCutAs job step strokes above tip planned
       → AreCounts job step passes planned.moves (strokes_in planned.moves strokes) planned.layers planned.lifts
-  counted strokes above tip planned rule depth above_all highest are as_cut =
+  counted same strokes above tip planned rule depth above_all highest are as_cut =
       let cut = as_cut.cut in
       let some : planned.moves ≢ [] = (λ none.
       layers_are_made job step tip above_all strokes above cut.tips cut.all cut.some (first_under step above cut.tips depth cut.high cut.layers)
@@ -126,7 +127,7 @@ module _ (job : Job) (step : StepJob) (passes : List Pass) where
       record {
         rests = λ none. absurd (some none);
         cuts = λ moved height highest' own are_own tips are_tips n count.
-            let strokes_same = one_list_of_strokes job step strokes own are are_own in
+            let strokes_same = one_list_of_strokes same job step strokes own are are_own in
             let layers_here = subst (λ z. AreStepLayers step z tips) (one_highest job step passes height above highest' highest) are_tips in
             let tips_same = one_way_of_layers step step.way above cut.tips tips cut.layers layers_here in
             let lifts = lifts_in_layers job step strokes n (subst (λ s. IsLiftCount job step s n) (sym strokes_same) count) cut.tips above cut.all cut.all_are in (

@@ -11,6 +11,7 @@ use Rattle.sn_outline.specs.declared.outline.Shape.{Shape}
 use Rattle.sn_outline.specs.declared.outline.Shape.TheVariants.{Trail}
 use Rattle.sn_raster.specs.Heights.{Pass}
 use Rattle.sn_open.specs.declared.stroke.Stroke.{Stroke}
+use Rattle.sn_clear.specs.ClearingLaws.{SameNodesSameStrokes}
 use Rattle.sn_fit.specs.Fit.{strokes_along, strokes_of_trail}
 use Rattle.sn_link.specs.declared.moves.Move.{Move}
 use Rattle.sn_link.specs.declared.moves.Move.TheVariants.{Feed}
@@ -87,15 +88,15 @@ some_segment [] long none = omega (arith, long)
 some_segment (a ∷ []) long none = omega (arith, long)
 some_segment (a ∷ b ∷ points) long none = cc
 
-along_segments : (job : Job) (step : StepJob) (points : List Pt) (width : ℕ) (passes : List Pass) (tip : Tip) (moves : List Move) (above : ℤ)
+along_segments : SameNodesSameStrokes → (job : Job) (step : StepJob) (points : List Pt) (width : ℕ) (passes : List Pass) (tip : Tip) (moves : List Move) (above : ℤ)
     → step.way ≡ way.Trail → step.outline.shape ≡ Trail points width → IsHighest job step passes above → tip_floor step <ℤ above → 2 ≤ length points
     → IsStepPlan job step passes tip moves → IsCutInLayers job step (strokes_along points) above tip moves
-along_segments job step points width passes tip moves above follows has highest high long p =
+along_segments same job step points width passes tip moves above follows has highest high long p =
     let along : strokes_by job step way.Trail (strokes_along points) = sym (ap (λ (s : Shape). strokes_of_trail s) has) in
     ⊎_elim
     (λ (clear, rests). absurd (⊎_elim (λ low. not_under_too (tip_floor step) above low high) (λ none. some_segment points long (sym none)) clear))
     (λ cut. cut)
-    (moves_by job step passes tip moves (strokes_along points) above p highest (by_its_way job step way.Trail (strokes_along points) follows along))
+    (moves_by same job step passes tip moves (strokes_along points) above p highest (by_its_way job step way.Trail (strokes_along points) follows along))
 
-pub followed_in_layers : TrailsAreFollowedInLayers
-followed_in_layers = (along_segments, record { steps = refl; moves = (trail_plan, tt) })
+pub followed_in_layers : SameNodesSameStrokes → TrailsAreFollowedInLayers
+followed_in_layers same = (along_segments same, record { steps = refl; moves = (trail_plan, tt) })

@@ -15,7 +15,6 @@ pub mod OnePlanLemmas
 pub mod PlanLawLemmas
 pub mod PlanLemmas
 pub mod PlannerLemmas
-pub mod RunLemmas
 pub mod SafeLemmas
 pub mod SpanLemmas
 pub mod StepLemmas

@@ -1,8 +1,5 @@
 -- A step has one plan: its strokes, its layers and the moves of each are determined.
 use Rattle.std.proofs.Common.{ℕ, zero, suc, ◌≡◌, ◌↔◌, ◌<◌, ◌*◌, ◌%◌, ◌/◌, ◌⊎◌, inl, inr, Bool, false, not, ◌&&◌, if◌then◌else◌, List, [], ◌∷◌, ◌++◌, map, get_or, ℤ, pos, ◌+ℤ◌, ◌-ℤ◌, ◌≤ℤ◌, ◌<ℤ◌, refl, sym, ap, subst, ◌∙◌, add-one, arith}
-use Rattle.std.specs.List.{range_with_len}
-use Rattle.std.proofs.lemmas.List.{ext_get_or}
-use Rattle.std.proofs.lemmas.List.FromFn.{length-map-range_with_len, get_or-map-range_with_len}
 use Rattle.sn_geom.proofs.Ring.{sums}
 use Rattle.sn_geom.specs.declared.units.Cell.{Cell}
 use Rattle.sn_geom.specs.declared.units.Pt.{Pt}
@@ -17,16 +14,8 @@ use Rattle.sn_raster.specs.Heights.{node_of, Pass, IsMaterial}
 use Rattle.sn_open.specs.Region.{InAllowed}
 use Rattle.sn_open.specs.declared.stroke.Stroke.{Stroke}
 use Rattle.sn_fit.specs.Fit.{AreDrillStrokes}
-use Rattle.sn_clear.specs.Window.{columns, rows, node_at}
-use Rattle.sn_clear.specs.Places.{passes_before}
-use Rattle.sn_clear.specs.Field.{Field, holds, spot_of}
-use Rattle.sn_clear.specs.Rows.{sweep}
-use Rattle.sn_clear.specs.Columns.{is_covered, column_for, with_columns, with_columns_before}
-use Rattle.sn_clear.specs.Strokes.{IsWindowOf, window_of, holds_target, useful_centres, field_of, row_step, stroke_of, clearing_strokes}
-use Rattle.sn_clear.proofs.PlaceLemmas.{one_passes, which_passes}
-use Rattle.sn_clear.proofs.ColumnLemmas.{columns-none, columns-next}
-use Rattle.sn_clear.proofs.ReachLemmas.{numbered, numbered_mark, same_bool}
-use Rattle.sn_clear.proofs.WindowLemmas.{in_window_at}
+use Rattle.sn_clear.specs.ClearingLaws.{SameNodesSameStrokes}
+use Rattle.sn_clear.specs.Strokes.{clearing_strokes}
 use Rattle.sn_link.specs.declared.moves.Move.{Move}
 use Rattle.sn_link.specs.declared.moves.Move.TheVariants.{Feed}
 use Rattle.sn_link.specs.Layers.{IsClearing, AreStrokes, AreLayers, IsLink, AreStrokeMoves, IsLayer, AreLayerMoves}
@@ -36,98 +25,25 @@ use Rattle.sn_link.specs.PlanLaws.{OneHighest}
 use Rattle.sn_link.proofs.ByWayLemmas.{layers_by, strokes_by}
 use Rattle.sn_link.proofs.StrokeLemmas.{one_grid}
 
--- Planes over one grid that have the same nodes, by their marks.
-
-pub same_mark : (g : Grid) (a b : Plane) (k : ℕ) → a.grid ≡ g → b.grid ≡ g
-    → ((n : Node) → IsInWindow g n → Has a n ↔ Has b n) → k < columns g * rows g → get_or a.marks k false ≡ get_or b.marks k false
-same_mark g a b k of_a of_b same below =
-    let f = window_of g 0 in
-    let window : IsWindowOf f g 0 = record { columns_are = refl; rows_are = refl; reach_is = refl } in
-    let here = numbered f g 0 k window below in
-    let nodes = same (node_at g (k % columns g) (k / columns g)) (in_window_at g (k % columns g) (k / columns g) here.column here.row) in
-    let first = numbered_mark f g 0 k a window below of_a in
-    let second = numbered_mark f g 0 k b window below of_b in
-    same_bool _ _ (λ on. second.0 (nodes.0 (first.1 on))) (λ on. first.0 (nodes.1 (second.1 on)))
-
-passes_same : (p q : ℕ → Bool) (n : ℕ) → ((k : ℕ) → k < n → p k ≡ q k) → passes_before p n ≡ passes_before q n
-passes_same p q n same =
-    same_bool _ _
-    (λ on. let (k, below, here) = which_passes p n on in one_passes q n k below (sym (same k below) ∙ here))
-    (λ on. let (k, below, here) = which_passes q n on in one_passes p n k below (same k below ∙ here))
-
-mapped_same : (f h : ℕ → Bool) (n : ℕ) → ((k : ℕ) → k < n → f k ≡ h k) → map f (range_with_len 0 n) ≡ map h (range_with_len 0 n)
-mapped_same f h n same =
-    let long = length-map-range_with_len f 0 n in
-    ext_get_or false (map f (range_with_len 0 n)) (map h (range_with_len 0 n)) (long ∙ sym (length-map-range_with_len h 0 n)) (λ k below.
-    let inside : k < n = omega (arith, below, long) in
-    get_or-map-range_with_len f 0 n k k false inside (omega arith) ∙ same k inside ∙ sym (get_or-map-range_with_len h 0 n k k false inside (omega arith)))
-
 -- Strokes.
 
-holds_same : (f : Field) (a b : Plane) (k : ℕ) → ((m : ℕ) → m < f.columns * f.rows → get_or a.marks m false ≡ get_or b.marks m false)
-    → holds_target f a k ≡ holds_target f b k
-holds_same f a b k same =
-    passes_same (λ m. get_or a.marks m false && holds f (spot_of f k) (spot_of f m)) (λ m. get_or b.marks m false && holds f (spot_of f k) (spot_of f m))
-    (f.columns * f.rows) (λ m below. ap (λ (on : Bool). on && holds f (spot_of f k) (spot_of f m)) (same m below))
-
-useful_same : (f : Field) (centres targets centres' targets' : Plane)
-    → ((m : ℕ) → m < f.columns * f.rows → get_or centres.marks m false ≡ get_or centres'.marks m false)
-    → ((m : ℕ) → m < f.columns * f.rows → get_or targets.marks m false ≡ get_or targets'.marks m false)
-    → useful_centres f centres targets ≡ useful_centres f centres' targets'
-useful_same f centres targets centres' targets' same_centres same_targets =
-    mapped_same (λ k. get_or centres.marks k false && holds_target f targets k) (λ k. get_or centres'.marks k false && holds_target f targets' k)
-    (f.columns * f.rows)
-    (λ k below.
-    ap (λ (on : Bool). on && holds_target f targets k) (same_centres k below)
-    ∙ ap (λ (on : Bool). get_or centres'.marks k false && on) (holds_same f targets targets' k same_targets))
-
-columns_same : (f : Field) (every : ℕ) (a b : List Bool) (n : ℕ) → ((k : ℕ) → k < n → get_or a k false ≡ get_or b k false)
-    → with_columns_before f a (sweep f every) n ≡ with_columns_before f b (sweep f every) n
-columns_same f every a b zero same = columns-none f a (sweep f every) ∙ sym (columns-none f b (sweep f every))
-columns_same f every a b (suc n) same =
-    let earlier = columns_same f every a b n (λ k below. same k (omega (arith, below))) in
-    let strokes = with_columns_before f b (sweep f every) n in
-    ap (with_columns_before f a (sweep f every)) (sym (add-one n))
-    ∙ columns-next f a (sweep f every) n
-    ∙ ap (λ r. r ++ (if get_or a n false && not (is_covered f r (spot_of f n)) then column_for f (spot_of f n) else [])) earlier
-    ∙ ap (λ (on : Bool). strokes ++ (if on && not (is_covered f strokes (spot_of f n)) then column_for f (spot_of f n) else [])) (same n (omega arith))
-    ∙ sym (columns-next f b (sweep f every) n)
-    ∙ ap (with_columns_before f b (sweep f every)) (add-one n)
-
-strokes_same : (step : StepJob) (g : Grid) (centres targets centres' targets' : Plane)
-    → ((m : ℕ) → m < columns g * rows g → get_or centres.marks m false ≡ get_or centres'.marks m false)
-    → ((m : ℕ) → m < columns g * rows g → get_or targets.marks m false ≡ get_or targets'.marks m false)
-    → clearing_strokes step g centres targets ≡ clearing_strokes step g centres' targets'
-strokes_same step g centres targets centres' targets' same_centres same_targets =
-    let f = window_of g step.body.d in
-    let fields : field_of g step.body.d centres targets ≡ field_of g step.body.d centres' targets' =
-    ap (λ (u : List Bool). record f { useful = u }) (useful_same f centres targets centres' targets' same_centres same_targets) in
-    let every = row_step step g.pitch in
-    ap (λ (h : Field). map (stroke_of g) (with_columns h targets.marks (sweep h every))) fields
-    ∙ ap (λ r. map (stroke_of g) r)
-    (columns_same (field_of g step.body.d centres' targets') every targets.marks targets'.marks (columns g * rows g) same_targets)
-
-one_clearing : (job : Job) (step : StepJob) (some others : List Stroke) → IsClearing job step some → IsClearing job step others → some ≡ others
-one_clearing job step some others p q =
+one_clearing : SameNodesSameStrokes → (job : Job) (step : StepJob) (some others : List Stroke) → IsClearing job step some → IsClearing job step others → some ≡ others
+one_clearing same job step some others p q =
     let g = p.centres.grid in
     let of_targets = one_grid p.targets.grid g job p.are_targets.grid p.are_centres.grid in
     let of_centres' = one_grid q.centres.grid g job q.are_centres.grid p.are_centres.grid in
     let of_targets' = one_grid q.targets.grid g job q.are_targets.grid p.are_centres.grid in
     p.strokes_are
-    ∙ strokes_same step g p.centres p.targets q.centres q.targets
-    (λ m below.
-    same_mark g p.centres q.centres m refl of_centres'
+    ∙ same step g p.centres p.targets q.centres q.targets refl of_targets of_centres' of_targets'
     (λ n inside.
     let there = subst (λ (h : Grid). IsInWindow h n) (sym of_centres') inside in (
       λ has. (q.are_centres.nodes n there).1 ((p.are_centres.nodes n inside).0 has),
       λ has. (p.are_centres.nodes n inside).1 ((q.are_centres.nodes n there).0 has),
-    )) below)
-    (λ m below.
-    same_mark g p.targets q.targets m of_targets of_targets'
+    ))
     (λ n inside. (
       λ has. (q.are_targets.nodes n).1 ((p.are_targets.nodes n).0 has),
       λ has. (p.are_targets.nodes n).1 ((q.are_targets.nodes n).0 has),
-    )) below)
+    ))
     ∙ ap (λ (h : Grid). clearing_strokes step h q.centres q.targets) (sym of_centres')
     ∙ sym q.strokes_are
 
@@ -137,13 +53,13 @@ one_drilling job step some others (inl (opens, is)) (inr (none, is')) = absurd (
 one_drilling job step some others (inr (none, is)) (inl (opens, is')) = absurd (none opens)
 one_drilling job step some others (inr (none, is)) (inr (none', is')) = is ∙ sym is'
 
-one_way_of_strokes : (job : Job) (step : StepJob) (w : Way) (some others : List Stroke) → strokes_by job step w some → strokes_by job step w others → some ≡ others
-one_way_of_strokes job step way.Clear some others p q = one_clearing job step some others p q
-one_way_of_strokes job step way.Trail some others p q = p ∙ sym q
-one_way_of_strokes job step way.Drill some others p q = one_drilling job step some others p q
+one_way_of_strokes : SameNodesSameStrokes → (job : Job) (step : StepJob) (w : Way) (some others : List Stroke) → strokes_by job step w some → strokes_by job step w others → some ≡ others
+one_way_of_strokes same job step way.Clear some others p q = one_clearing same job step some others p q
+one_way_of_strokes same job step way.Trail some others p q = p ∙ sym q
+one_way_of_strokes same job step way.Drill some others p q = one_drilling job step some others p q
 
-pub one_list_of_strokes : (job : Job) (step : StepJob) (some others : List Stroke) → AreStrokes job step some → AreStrokes job step others → some ≡ others
-one_list_of_strokes job step some others p q = one_way_of_strokes job step step.way some others p q
+pub one_list_of_strokes : SameNodesSameStrokes → (job : Job) (step : StepJob) (some others : List Stroke) → AreStrokes job step some → AreStrokes job step others → some ≡ others
+one_list_of_strokes same job step some others p q = one_way_of_strokes same job step step.way some others p q
 
 -- Layers.
 
@@ -258,13 +174,13 @@ one_either job step strokes above tip some others (inr cut) (inl (clear, none)) 
 one_either job step strokes above tip some others (inr cut) (inr cut') = one_cut job step strokes above tip some others cut cut'
 
 -- the moves of a planned step, by its strokes and the height over which no material is left
-pub moves_by : (job : Job) (step : StepJob) (passes : List Pass) (tip : Tip) (moves : List Move) (strokes : List Stroke) (above : ℤ) → IsStepPlan job step passes tip moves
+pub moves_by : SameNodesSameStrokes → (job : Job) (step : StepJob) (passes : List Pass) (tip : Tip) (moves : List Move) (strokes : List Stroke) (above : ℤ) → IsStepPlan job step passes tip moves
     → IsHighest job step passes above → AreStrokes job step strokes → (NeedsNoLayer step strokes above × (moves ≡ [])) ⊎ IsCutInLayers job step strokes above tip moves
-moves_by job step passes tip moves strokes above p highest are =
-    subst (λ (ss : List Stroke). IsEither job step tip moves ss above) (one_list_of_strokes job step p.strokes strokes p.strokes_are are)
+moves_by same job step passes tip moves strokes above p highest are =
+    subst (λ (ss : List Stroke). IsEither job step tip moves ss above) (one_list_of_strokes same job step p.strokes strokes p.strokes_are are)
     (subst (λ (z : ℤ). IsEither job step tip moves p.strokes z) (one_highest job step passes p.above above p.highest highest) p.moves_are)
 
-pub one_step_plan : (job : Job) (step : StepJob) (passes : List Pass) (tip : Tip) (some others : List Move)
+pub one_step_plan : SameNodesSameStrokes → (job : Job) (step : StepJob) (passes : List Pass) (tip : Tip) (some others : List Move)
     → IsStepPlan job step passes tip some → IsStepPlan job step passes tip others → some ≡ others
-one_step_plan job step passes tip some others p q =
-    one_either job step p.strokes p.above tip some others p.moves_are (moves_by job step passes tip others p.strokes p.above q p.highest p.strokes_are)
+one_step_plan same job step passes tip some others p q =
+    one_either job step p.strokes p.above tip some others p.moves_are (moves_by same job step passes tip others p.strokes p.above q p.highest p.strokes_are)

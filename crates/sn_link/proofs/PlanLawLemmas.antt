@@ -16,6 +16,7 @@ use Rattle.sn_outline.specs.declared.outline.Shape.{Shape}
 use Rattle.sn_outline.specs.declared.outline.Shape.TheVariants.{Circle}
 use Rattle.sn_raster.specs.Heights.{Pass}
 use Rattle.sn_open.specs.declared.stroke.Stroke.{Stroke}
+use Rattle.sn_clear.specs.ClearingLaws.{NoStrokesWithoutTargets, SameNodesSameStrokes}
 use Rattle.sn_fit.specs.Fit.{strokes_along, strokes_of_trail, strokes_at_centre, OpensSome, AreDrillStrokes}
 use Rattle.sn_link.specs.declared.moves.Move.{Move}
 use Rattle.sn_link.specs.declared.moves.Move.TheVariants.{Rapid, Feed}
@@ -27,7 +28,7 @@ use Rattle.sn_link.proofs.ByWayLemmas.{layers_by, strokes_by}
 use Rattle.sn_link.proofs.ExampleLemmas.{hole_plan}
 use Rattle.sn_link.proofs.MovesLemmas.{by_test, same_test}
 use Rattle.sn_link.proofs.OnePlanLemmas.{moves_by, not_both, one_list_of_strokes, one_step_plan}
-use Rattle.sn_link.proofs.StrokeLemmas.{no_strokes}
+use Rattle.sn_link.proofs.StrokeLemmas.{are_over}
 
 -- Heights.
 
@@ -59,10 +60,10 @@ no_moves : (job : Job) (step : StepJob) (passes : List Pass) (tip : Tip) (moves 
 no_moves job step passes tip moves p clear =
     ⊎_elim (λ (clear', none). none) (λ cut. absurd (not_both job step p.strokes p.above tip moves clear cut)) p.moves_are
 
-without_stroke : (job : Job) (step : StepJob) (passes : List Pass) (tip : Tip) (moves : List Move) → IsStepPlan job step passes tip moves
+without_stroke : SameNodesSameStrokes → (job : Job) (step : StepJob) (passes : List Pass) (tip : Tip) (moves : List Move) → IsStepPlan job step passes tip moves
     → (strokes : List Stroke) → AreStrokes job step strokes → strokes ≡ [] → moves ≡ []
-without_stroke job step passes tip moves p strokes are none =
-    no_moves job step passes tip moves p (inr (one_list_of_strokes job step p.strokes strokes p.strokes_are are ∙ none))
+without_stroke same job step passes tip moves p strokes are none =
+    no_moves job step passes tip moves p (inr (one_list_of_strokes same job step p.strokes strokes p.strokes_are are ∙ none))
 
 pub by_its_way : (job : Job) (step : StepJob) (w : Way) (strokes : List Stroke) → step.way ≡ w → strokes_by job step w strokes → AreStrokes job step strokes
 by_its_way job step w strokes is are = subst (λ (v : Way). strokes_by job step v strokes) (sym is) are
@@ -75,18 +76,18 @@ short_trail [] short = refl
 short_trail (a ∷ []) short = refl
 short_trail (a ∷ b ∷ points) short = absurd (omega (arith, short))
 
-pub nothing_to_cut_no_moves : NothingToCutNoMoves
-nothing_to_cut_no_moves job step passes tip moves p = (
+pub nothing_to_cut_no_moves : SameNodesSameStrokes → NoStrokesWithoutTargets → NothingToCutNoMoves
+nothing_to_cut_no_moves same unused job step passes tip moves p = (
   λ low done.
       no_moves job step passes tip moves p
       (inl (⊎_elim (λ e. not_over (tip_floor step) job.low.z p.above e low)
       (λ (c, left, allowed, e). next_not_over (tip_floor step) c.z p.above e (done c left allowed)) p.highest.reached)),
-  λ none. without_stroke job step passes tip moves p [] none refl,
-  λ drills shut. without_stroke job step passes tip moves p [] (by_its_way job step way.Drill [] drills (inr ((λ (n, opened). shut n opened), refl))) refl,
+  λ none. without_stroke same job step passes tip moves p [] none refl,
+  λ drills shut. without_stroke same job step passes tip moves p [] (by_its_way job step way.Drill [] drills (inr ((λ (n, opened). shut n opened), refl))) refl,
   λ rule clears shut.
       let q : IsClearing job step p.strokes = from_its_way job step way.Clear p.strokes clears p.strokes_are in
       no_moves job step passes tip moves p
-      (inr (q.strokes_are ∙ no_strokes job step q.centres q.targets rule q.are_centres q.are_targets
+      (inr (q.strokes_are ∙ unused step q.centres.grid q.centres q.targets (are_over job step q.centres q.targets rule q.are_centres q.are_targets)
       (λ n has. let both = (q.are_targets.nodes n).0 has in shut n both.0 both.1))),
   λ points width follows has short.
       let along : p.strokes ≡ strokes_of_trail step.outline.shape = from_its_way job step way.Trail p.strokes follows p.strokes_are in
@@ -142,19 +143,19 @@ cut_is_plunge job step centre above tip moves drills cut =
     (subst (λ (ts : List ℤ). AreLayerMoves job step (record { from = centre; to = centre } ∷ []) above ts cut.all) one cut.all_are) in
     cut.moves_are ∙ ap (λ (ms : List Move). made tip ms) all ∙ feed_twice tip _ _ _ (lift job.sec centre (tip_floor step) step.body.e)
 
-plunges_at : (job : Job) (step : StepJob) (centre : Pt) (d : ℕ) (passes : List Pass) (tip : Tip) (moves : List Move) (above : ℤ)
+plunges_at : SameNodesSameStrokes → (job : Job) (step : StepJob) (centre : Pt) (d : ℕ) (passes : List Pass) (tip : Tip) (moves : List Move) (above : ℤ)
     → step.way ≡ way.Drill → step.outline.shape ≡ Circle centre d → IsHighest job step passes above → tip_floor step <ℤ above → OpensSome job step
     → IsStepPlan job step passes tip moves → moves ≡ made tip (plunge job step centre above)
-plunges_at job step centre d passes tip moves above drills has highest high opens p =
+plunges_at same job step centre d passes tip moves above drills has highest high opens p =
     let stroke : Stroke = record { from = centre; to = centre } in
     let one : strokes_by job step way.Drill (stroke ∷ []) = inl (opens, sym (ap (λ (s : Shape). strokes_at_centre s) has)) in
     ⊎_elim
     (λ (clear, none). absurd (has_something step stroke [] above high clear))
     (λ cut. cut_is_plunge job step centre above tip moves drills cut)
-    (moves_by job step passes tip moves (stroke ∷ []) above p highest (by_its_way job step way.Drill (stroke ∷ []) drills one))
+    (moves_by same job step passes tip moves (stroke ∷ []) above p highest (by_its_way job step way.Drill (stroke ∷ []) drills one))
 
-pub drills_plunge : DrillsPlunge
-drills_plunge = (plunges_at, record { steps = refl; moves = (hole_plan, tt) })
+pub drills_plunge : SameNodesSameStrokes → DrillsPlunge
+drills_plunge same = (plunges_at same, record { steps = refl; moves = (hole_plan, tt) })
 
 -- Tips.
 
@@ -200,30 +201,30 @@ no_move move moves e = cc
 joined : (s t : StepJob) (ms ns : List Move) (xs ys : List (StepJob × List Move)) → s ≡ t → ms ≡ ns → xs ≡ ys → (s, ms) ∷ xs ≡ (t, ns) ∷ ys
 joined s t ms ns xs ys same moves rest = λ i. (same i, moves i) ∷ rest i
 
-one_list : (job : Job) (passes : List Pass) (tool : Option ℕ) (tip : Tip) (some others : List (StepJob × List Move))
+one_list : SameNodesSameStrokes → (job : Job) (passes : List Pass) (tool : Option ℕ) (tip : Tip) (some others : List (StepJob × List Move))
     → map (λ (planned : StepJob × List Move). planned.0) some ≡ map (λ (planned : StepJob × List Move). planned.0) others
     → ArePlans job passes tool tip some → ArePlans job passes tool tip others → some ≡ others
-one_list job passes tool tip [] [] e p q = refl
-one_list job passes tool tip [] ((t, ns) ∷ ys) e p q = absurd (not_more t _ e)
-one_list job passes tool tip ((s, ms) ∷ xs) [] e p q = absurd (not_more s _ (sym e))
-one_list job passes tool tip ((s, []) ∷ xs) ((t, []) ∷ ys) e p q =
-    joined s t [] [] xs ys (heads s t _ _ e) refl (one_list job passes tool tip xs ys (tails s t _ _ e) p.1 q.1)
-one_list job passes tool tip ((s, []) ∷ xs) ((t, n ∷ ns) ∷ ys) e p q =
+one_list same' job passes tool tip [] [] e p q = refl
+one_list same' job passes tool tip [] ((t, ns) ∷ ys) e p q = absurd (not_more t _ e)
+one_list same' job passes tool tip ((s, ms) ∷ xs) [] e p q = absurd (not_more s _ (sym e))
+one_list same' job passes tool tip ((s, []) ∷ xs) ((t, []) ∷ ys) e p q =
+    joined s t [] [] xs ys (heads s t _ _ e) refl (one_list same' job passes tool tip xs ys (tails s t _ _ e) p.1 q.1)
+one_list same' job passes tool tip ((s, []) ∷ xs) ((t, n ∷ ns) ∷ ys) e p q =
     let planned = subst (λ (u : StepJob). IsStepPlan job u passes (tip_for job tool tip u) (n ∷ ns)) (sym (heads s t _ _ e)) q.0 in
-    absurd (no_move n ns (one_step_plan job s passes (tip_for job tool tip s) [] (n ∷ ns) p.0 planned))
-one_list job passes tool tip ((s, m ∷ ms) ∷ xs) ((t, []) ∷ ys) e p q =
+    absurd (no_move n ns (one_step_plan same' job s passes (tip_for job tool tip s) [] (n ∷ ns) p.0 planned))
+one_list same' job passes tool tip ((s, m ∷ ms) ∷ xs) ((t, []) ∷ ys) e p q =
     let planned = subst (λ (u : StepJob). IsStepPlan job u passes (tip_for job tool tip u) []) (sym (heads s t _ _ e)) q.0 in
-    absurd (no_move m ms (one_step_plan job s passes (tip_for job tool tip s) [] (m ∷ ms) planned p.0))
-one_list job passes tool tip ((s, m ∷ ms) ∷ xs) ((t, n ∷ ns) ∷ ys) e p q =
+    absurd (no_move m ms (one_step_plan same' job s passes (tip_for job tool tip s) [] (m ∷ ms) planned p.0))
+one_list same' job passes tool tip ((s, m ∷ ms) ∷ xs) ((t, n ∷ ns) ∷ ys) e p q =
     let same = heads s t _ _ e in
     let planned = subst (λ (u : StepJob). IsStepPlan job u passes (tip_for job tool tip u) (n ∷ ns)) (sym same) q.0 in
-    let moves = one_step_plan job s passes (tip_for job tool tip s) (m ∷ ms) (n ∷ ns) p.0 planned in
+    let moves = one_step_plan same' job s passes (tip_for job tool tip s) (m ∷ ms) (n ∷ ns) p.0 planned in
     let later = subst (λ (u : StepJob). ArePlans job (passes ++ passes_by u.body (tip_for job tool tip u) (n ∷ ns)) (Some u.tool) (tip_after_moves (tip_for job tool tip u) (n ∷ ns)) ys)
     (sym same) q.1 in
     let rest = subst (λ (ks : List Move). ArePlans job (passes ++ passes_by s.body (tip_for job tool tip s) ks) (Some s.tool) (tip_after_moves (tip_for job tool tip s) ks) ys)
     (sym moves) later in
     joined s t (m ∷ ms) (n ∷ ns) xs ys same moves
-    (one_list job (passes ++ passes_by s.body (tip_for job tool tip s) (m ∷ ms)) (Some s.tool) (tip_after_moves (tip_for job tool tip s) (m ∷ ms)) xs ys (tails s t _ _ e) p.1 rest)
+    (one_list same' job (passes ++ passes_by s.body (tip_for job tool tip s) (m ∷ ms)) (Some s.tool) (tip_after_moves (tip_for job tool tip s) (m ∷ ms)) xs ys (tails s t _ _ e) p.1 rest)
 
-pub one_plan : OnePlan
-one_plan job some others p q = one_list job [] None Unknown some others (p.steps ∙ sym q.steps) p.moves q.moves
+pub one_plan : SameNodesSameStrokes → OnePlan
+one_plan same job some others p q = one_list same job [] None Unknown some others (p.steps ∙ sym q.steps) p.moves q.moves

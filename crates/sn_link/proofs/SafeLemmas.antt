@@ -23,7 +23,8 @@ use Rattle.sn_open.specs.PlaneLaws.{WindowHasDiscs}
 use Rattle.sn_open.specs.Region.{IsDrilledAtCentre, IsFollowed, IsOpening}
 use Rattle.sn_open.specs.declared.stroke.Stroke.{Stroke}
 use Rattle.sn_fit.specs.Fit.{strokes_of_trail, strokes_at_centre, AreDrillStrokes}
-use Rattle.sn_clear.specs.ThriftyStrokes.{AreThriftyStrokes, ClearingStrokesAreThrifty}
+use Rattle.sn_clear.specs.ClearingLaws.{StrokesLieOnCentres, TargetsAreAlongStrokes, ClearingStrokesAreThrifty}
+use Rattle.sn_clear.specs.ThriftyStrokes.{AreThriftyStrokes}
 use Rattle.sn_link.specs.declared.moves.Move.{Move}
 use Rattle.sn_link.specs.Layers.{IsClearing, IsFreeWay, AreLayers, AreStepLayers}
 use Rattle.sn_link.specs.Plan.{IsHighest}
@@ -32,7 +33,7 @@ use Rattle.sn_link.specs.SafeLaws.{IsPlanned, PlannedMovesAreSafe, PlannedMovesE
 use Rattle.sn_link.proofs.ByWayLemmas.{layers_by, reached_by, strokes_by}
 use Rattle.sn_link.proofs.LayerLemmas.{IsGoodRest, AreFree, AreShallow, AreLayered, NearAny}
 use Rattle.sn_link.proofs.StepLemmas.{AreSound, TargetsAreCut, all_free, along_listed, layer_at_floor, layered, step_is_kept}
-use Rattle.sn_link.proofs.StrokeLemmas.{strokes_are_free, pitch_rule, one, held, target_along}
+use Rattle.sn_link.proofs.StrokeLemmas.{are_over, strokes_are_free, held, target_along}
 use Rattle.sn_link.proofs.TrailLemmas.{trail_is_free, trail_is_followed}
 
 -- Heights.
@@ -87,7 +88,8 @@ drill_shallow step (Trail points width) above tip = tt
 
 -- Steps.
 
-module _ (discs : WindowHasDiscs) (job : Job) (step : StepJob) (rule : IsJob job) (executed : Contains job.steps step) where
+module _ (discs : WindowHasDiscs) (lie : StrokesLieOnCentres) (along : TargetsAreAlongStrokes) (job : Job) (step : StepJob) (rule : IsJob job)
+    (executed : Contains job.steps step) where
   proper : IsProper step
   proper = All-contains IsProper job.steps step rule.proper executed
 
@@ -102,10 +104,10 @@ module _ (discs : WindowHasDiscs) (job : Job) (step : StepJob) (rule : IsJob job
   clearing_is_sound is strokes clearing = record {
     free = all_free job step strokes
         (subst (λ (ss : List Stroke). All (λ (s : Stroke). IsFreeWay job step s.from s.to) ss) (sym clearing.strokes_are)
-        (strokes_are_free job step clearing.centres clearing.targets rule clearing.are_centres clearing.are_targets));
+        (strokes_are_free job step clearing.centres clearing.targets rule clearing.are_centres clearing.are_targets lie));
     targets = λ n opened required.
         let has : Has clearing.targets n = (clearing.are_targets.nodes n).1 (required, opened) in
-        let (s, (k, below, same), near) = target_along job step clearing.centres clearing.targets rule clearing.are_centres clearing.are_targets discs executed is n has in
+        let (s, (k, below, same), near) = target_along job step clearing.centres clearing.targets rule clearing.are_centres clearing.are_targets discs executed is along n has in
         subst (λ (ss : List Stroke). NearAny job step ss n) (sym clearing.strokes_are) (along_listed job step _ s n k below same near);
     layered = λ above tips high safe layers. layers_are_sound strokes above tips high safe (subst (λ (w : Way). layers_by step w above tips) is layers);
   }
@@ -155,24 +157,24 @@ module _ (discs : WindowHasDiscs) (job : Job) (step : StepJob) (rule : IsJob job
       ⊎_elim (λ e. low_not_over above job.low.z job.high.z job.sec e rule.raw_box.z rule.security.above)
       (λ (c, left, allowed, e). next_not_over above c.z job.high.z job.sec e left.raw.below rule.security.above) highest.reached
 
-kept : WindowHasDiscs → (job : Job) (step : StepJob) (passes : List Pass) (tip : Tip) (moves : List Move) → IsPlanned job step passes tip moves
+kept : WindowHasDiscs → StrokesLieOnCentres → TargetsAreAlongStrokes → (job : Job) (step : StepJob) (passes : List Pass) (tip : Tip) (moves : List Move) → IsPlanned job step passes tip moves
     → IsGoodRest job step (TargetsAreCut job step) passes tip moves
-kept discs job step passes tip moves p =
+kept discs lie along job step passes tip moves p =
     let plan = p.planned in
-    step_is_kept job step passes tip p.above plan.strokes (strokes_are_sound discs job step p.rule p.executed step.way refl plan.strokes plan.strokes_are)
-    plan.above plan.highest (highest_under_sec discs job step p.rule p.executed passes plan.above plan.highest) moves plan.moves_are
+    step_is_kept job step passes tip p.above plan.strokes (strokes_are_sound discs lie along job step p.rule p.executed step.way refl plan.strokes plan.strokes_are)
+    plan.above plan.highest (highest_under_sec discs lie along job step p.rule p.executed passes plan.above plan.highest) moves plan.moves_are
 
-pub planned_moves_are_safe : WindowHasDiscs → PlannedMovesAreSafe
-planned_moves_are_safe discs job step passes tip moves p = (kept discs job step passes tip moves p).safe
+pub planned_moves_are_safe : WindowHasDiscs → StrokesLieOnCentres → TargetsAreAlongStrokes → PlannedMovesAreSafe
+planned_moves_are_safe discs lie along job step passes tip moves p = (kept discs lie along job step passes tip moves p).safe
 
-pub planned_moves_end_above : WindowHasDiscs → PlannedMovesEndAbove
-planned_moves_end_above discs job step passes tip moves p = (kept discs job step passes tip moves p).ends
+pub planned_moves_end_above : WindowHasDiscs → StrokesLieOnCentres → TargetsAreAlongStrokes → PlannedMovesEndAbove
+planned_moves_end_above discs lie along job step passes tip moves p = (kept discs lie along job step passes tip moves p).ends
 
-pub planned_moves_cut_the_targets : WindowHasDiscs → PlannedMovesCutTheTargets
-planned_moves_cut_the_targets discs job step passes tip moves p = (kept discs job step passes tip moves p).after
+pub planned_moves_cut_the_targets : WindowHasDiscs → StrokesLieOnCentres → TargetsAreAlongStrokes → PlannedMovesCutTheTargets
+planned_moves_cut_the_targets discs lie along job step passes tip moves p = (kept discs lie along job step passes tip moves p).after
 
-pub planned_moves_are_straight : WindowHasDiscs → PlannedMovesAreStraight
-planned_moves_are_straight discs job step passes tip moves p = (kept discs job step passes tip moves p).straight
+pub planned_moves_are_straight : WindowHasDiscs → StrokesLieOnCentres → TargetsAreAlongStrokes → PlannedMovesAreStraight
+planned_moves_are_straight discs lie along job step passes tip moves p = (kept discs lie along job step passes tip moves p).straight
 
 pub clearing_steps_are_thrifty : WindowHasDiscs → ClearingStrokesAreThrifty → ClearingStepsAreThrifty
 clearing_steps_are_thrifty discs thrift job step strokes rule executed clears clearing = record {
@@ -182,7 +184,6 @@ clearing_steps_are_thrifty discs thrift job step strokes rule executed clears cl
   are_targets = clearing.are_targets;
   thrifty = subst (AreThriftyStrokes step clearing.centres.grid clearing.centres clearing.targets) (sym clearing.strokes_are)
       (thrift step clearing.centres.grid clearing.centres clearing.targets
-      (pitch_rule job step clearing.centres clearing.targets rule clearing.are_centres clearing.are_targets) refl
-      (one job step clearing.centres clearing.targets rule clearing.are_centres clearing.are_targets)
+      (are_over job step clearing.centres clearing.targets rule clearing.are_centres clearing.are_targets)
       (held job step clearing.centres clearing.targets rule clearing.are_centres clearing.are_targets discs executed clears));
 }

@@ -7,6 +7,7 @@ use Rattle.sn_outline.specs.JobRule.{IsJob, IsProper}
 use Rattle.sn_outline.specs.declared.job.StepJob.{StepJob}
 use Rattle.sn_raster.specs.Heights.{Pass}
 use Rattle.sn_open.specs.declared.stroke.Stroke.{Stroke}
+use Rattle.sn_clear.specs.ClearingLaws.{SameNodesSameStrokes}
 use Rattle.sn_link.specs.declared.moves.Move.{Move}
 use Rattle.sn_link.specs.declared.step_plan.Planned.{Planned}
 use Rattle.sn_link.specs.Counts.{AreCounts, strokes_in}
@@ -31,8 +32,8 @@ module _ (job : Job) (step : StepJob) (passes : List Pass) (tip : Tip) (strokes 
       subst (λ t. IsStepPlan job step passes t planned.moves) same
       (record { above = above; highest = highest; strokes = strokes; strokes_are = are; moves_are = inr as_cut.cut })
 
-  pub counts_by : (at : Tip) (planned : Planned) → IsJob job → Contains job.steps step → IsAtSecurity job tip → at ≡ tip → IsCutAs job step strokes above at planned
+  pub counts_by : SameNodesSameStrokes → (at : Tip) (planned : Planned) → IsJob job → Contains job.steps step → IsAtSecurity job tip → at ≡ tip → IsCutAs job step strokes above at planned
       → AreCounts job step passes planned.moves (strokes_in planned.moves strokes) planned.layers planned.lifts
-  counts_by at planned rule executed at_security same as_cut =
+  counts_by same_strokes at planned rule executed at_security same as_cut =
       let own = proper_of job step rule executed in
-      counted job step passes strokes above at planned rule own.depths.axial_at_least (subst (IsAtSecurity job) (sym same) at_security) highest are as_cut
+      counted job step passes same_strokes strokes above at planned rule own.depths.axial_at_least (subst (IsAtSecurity job) (sym same) at_security) highest are as_cut

@@ -26,7 +26,9 @@ pub fn plans()
     ensures begin_at_the_tip { StepsBeginAtTheTip }
     ensures drills { DrillsPlunge }
     ensures counted { EachStepWithMovesIsCounted }
-{}
+{
+    clearing();
+}
 
 /// Laws of the layers of a step.
 pub fn layers()
@@ -37,7 +39,9 @@ pub fn layers()
     ensures along { LayersGoAlongTheirStrokes }
     ensures later { LaterLayersBeginWhereTheLastCut }
     ensures trails { TrailsAreFollowedInLayers }
-{}
+{
+    clearing();
+}
 
 /// What the moves of each planned step keep.
 pub fn planned_moves()

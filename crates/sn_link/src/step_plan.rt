@@ -13,6 +13,7 @@ ghost use Rattle.sn_link.specs.Safe.{AreWithin, IsAtSecurity};
 use crate::layers::{cut_in_layers, lowest};
 use crate::material::highest;
 use crate::moves::Moves;
+use sn_clear::laws::clearing;
 use sn_geom::{Memory, Pt3, Tip, Um};
 use sn_open::{Allowed, Stroke};
 use sn_outline::{Job, StepJob};
@@ -80,6 +81,7 @@ fn planned_of(
     ensures counts { IfOk result (λ planned. (passes : List Pass) → StandsFor h.now j.now passes
         → AreCounts j.now step.now passes planned.moves (strokes_in planned.moves s.now) planned.layers planned.lifts) }
 {
+    clearing();
     j.rule();
     let above = highest(h, ok);
     if above.get() <= lowest(step).get() {

@@ -9,5 +9,5 @@ returns c = record {
   links = fed_or_lifted;
   along = along_their_strokes;
   later = where_the_last_cut;
-  trails = followed_in_layers;
+  trails = followed_in_layers c.clearing.ensures.same;
 }

@@ -19,7 +19,7 @@ returns-clause-counts c = λ passes stands.
     let job = c.args.j.now in
     let step = c.args.step.now in
     counts_by job step passes _ c.args.s.now c.highest-above.result (c.highest-above.ensures job step passes stands c.requires.allowed) c.requires.strokes
-    c.tip_at-tip.result c.in_ok-planned.planned c.rule.ensures c.requires.executed c.requires.above (c.tip_at-tip.ensures job (sym c.security-sec.ensures))
+    c.clearing.ensures.same c.tip_at-tip.result c.in_ok-planned.planned c.rule.ensures c.requires.executed c.requires.above (c.tip_at-tip.ensures job (sym c.security-sec.ensures))
     (c.in_ok-planned.ensures.cut job (sym c.security-sec.ensures) c.requires.allowed)
 
 pub returns-then-get-clause-planned : goal.returns-then-get-clause-planned
