@@ -17,6 +17,7 @@ use Rattle.sn_outline.specs.declared.job.Way.TheVariants as way
 use Rattle.sn_outline.specs.declared.outline.Shape.{Shape}
 use Rattle.sn_outline.specs.declared.outline.Shape.TheVariants.{Rect, Circle, Polygon, Trail}
 use Rattle.sn_raster.specs.Grid.{Node, place}
+use Rattle.sn_raster.specs.GridLaws.{MarginIsGreatest}
 use Rattle.sn_raster.specs.Plane.{Has}
 use Rattle.sn_raster.specs.Heights.{Pass}
 use Rattle.sn_open.specs.PlaneLaws.{WindowHasDiscs}
@@ -88,7 +89,7 @@ drill_shallow step (Trail points width) above tip = tt
 
 -- Steps.
 
-module _ (discs : WindowHasDiscs) (lie : StrokesLieOnCentres) (along : TargetsAreAlongStrokes) (job : Job) (step : StepJob) (rule : IsJob job)
+module _ (margin : MarginIsGreatest) (discs : WindowHasDiscs) (lie : StrokesLieOnCentres) (along : TargetsAreAlongStrokes) (job : Job) (step : StepJob) (rule : IsJob job)
     (executed : Contains job.steps step) where
   proper : IsProper step
   proper = All-contains IsProper job.steps step rule.proper executed
@@ -107,7 +108,7 @@ module _ (discs : WindowHasDiscs) (lie : StrokesLieOnCentres) (along : TargetsAr
         (strokes_are_free job step clearing.centres clearing.targets rule clearing.are_centres clearing.are_targets lie));
     targets = λ n opened required.
         let has : Has clearing.targets n = (clearing.are_targets.nodes n).1 (required, opened) in
-        let (s, (k, below, same), near) = target_along job step clearing.centres clearing.targets rule clearing.are_centres clearing.are_targets discs executed is along n has in
+        let (s, (k, below, same), near) = target_along job step clearing.centres clearing.targets rule clearing.are_centres clearing.are_targets margin discs executed is along n has in
         subst (λ (ss : List Stroke). NearAny job step ss n) (sym clearing.strokes_are) (along_listed job step _ s n k below same near);
     layered = λ above tips high safe layers. layers_are_sound strokes above tips high safe (subst (λ (w : Way). layers_by step w above tips) is layers);
   }
@@ -157,27 +158,27 @@ module _ (discs : WindowHasDiscs) (lie : StrokesLieOnCentres) (along : TargetsAr
       ⊎_elim (λ e. low_not_over above job.low.z job.high.z job.sec e rule.raw_box.z rule.security.above)
       (λ (c, left, allowed, e). next_not_over above c.z job.high.z job.sec e left.raw.below rule.security.above) highest.reached
 
-kept : WindowHasDiscs → StrokesLieOnCentres → TargetsAreAlongStrokes → (job : Job) (step : StepJob) (passes : List Pass) (tip : Tip) (moves : List Move) → IsPlanned job step passes tip moves
+kept : MarginIsGreatest → WindowHasDiscs → StrokesLieOnCentres → TargetsAreAlongStrokes → (job : Job) (step : StepJob) (passes : List Pass) (tip : Tip) (moves : List Move) → IsPlanned job step passes tip moves
     → IsGoodRest job step (TargetsAreCut job step) passes tip moves
-kept discs lie along job step passes tip moves p =
+kept margin discs lie along job step passes tip moves p =
     let plan = p.planned in
-    step_is_kept job step passes tip p.above plan.strokes (strokes_are_sound discs lie along job step p.rule p.executed step.way refl plan.strokes plan.strokes_are)
-    plan.above plan.highest (highest_under_sec discs lie along job step p.rule p.executed passes plan.above plan.highest) moves plan.moves_are
+    step_is_kept job step passes tip p.above plan.strokes (strokes_are_sound margin discs lie along job step p.rule p.executed step.way refl plan.strokes plan.strokes_are)
+    plan.above plan.highest (highest_under_sec margin discs lie along job step p.rule p.executed passes plan.above plan.highest) moves plan.moves_are
 
-pub planned_moves_are_safe : WindowHasDiscs → StrokesLieOnCentres → TargetsAreAlongStrokes → PlannedMovesAreSafe
-planned_moves_are_safe discs lie along job step passes tip moves p = (kept discs lie along job step passes tip moves p).safe
+pub planned_moves_are_safe : MarginIsGreatest → WindowHasDiscs → StrokesLieOnCentres → TargetsAreAlongStrokes → PlannedMovesAreSafe
+planned_moves_are_safe margin discs lie along job step passes tip moves p = (kept margin discs lie along job step passes tip moves p).safe
 
-pub planned_moves_end_above : WindowHasDiscs → StrokesLieOnCentres → TargetsAreAlongStrokes → PlannedMovesEndAbove
-planned_moves_end_above discs lie along job step passes tip moves p = (kept discs lie along job step passes tip moves p).ends
+pub planned_moves_end_above : MarginIsGreatest → WindowHasDiscs → StrokesLieOnCentres → TargetsAreAlongStrokes → PlannedMovesEndAbove
+planned_moves_end_above margin discs lie along job step passes tip moves p = (kept margin discs lie along job step passes tip moves p).ends
 
-pub planned_moves_cut_the_targets : WindowHasDiscs → StrokesLieOnCentres → TargetsAreAlongStrokes → PlannedMovesCutTheTargets
-planned_moves_cut_the_targets discs lie along job step passes tip moves p = (kept discs lie along job step passes tip moves p).after
+pub planned_moves_cut_the_targets : MarginIsGreatest → WindowHasDiscs → StrokesLieOnCentres → TargetsAreAlongStrokes → PlannedMovesCutTheTargets
+planned_moves_cut_the_targets margin discs lie along job step passes tip moves p = (kept margin discs lie along job step passes tip moves p).after
 
-pub planned_moves_are_straight : WindowHasDiscs → StrokesLieOnCentres → TargetsAreAlongStrokes → PlannedMovesAreStraight
-planned_moves_are_straight discs lie along job step passes tip moves p = (kept discs lie along job step passes tip moves p).straight
+pub planned_moves_are_straight : MarginIsGreatest → WindowHasDiscs → StrokesLieOnCentres → TargetsAreAlongStrokes → PlannedMovesAreStraight
+planned_moves_are_straight margin discs lie along job step passes tip moves p = (kept margin discs lie along job step passes tip moves p).straight
 
-pub clearing_steps_are_thrifty : WindowHasDiscs → ClearingStrokesAreThrifty → ClearingStepsAreThrifty
-clearing_steps_are_thrifty discs thrift job step strokes rule executed clears clearing = record {
+pub clearing_steps_are_thrifty : MarginIsGreatest → WindowHasDiscs → ClearingStrokesAreThrifty → ClearingStepsAreThrifty
+clearing_steps_are_thrifty margin discs thrift job step strokes rule executed clears clearing = record {
   centres = clearing.centres;
   targets = clearing.targets;
   are_centres = clearing.are_centres;
@@ -185,5 +186,5 @@ clearing_steps_are_thrifty discs thrift job step strokes rule executed clears cl
   thrifty = subst (AreThriftyStrokes step clearing.centres.grid clearing.centres clearing.targets) (sym clearing.strokes_are)
       (thrift step clearing.centres.grid clearing.centres clearing.targets
       (are_over job step clearing.centres clearing.targets rule clearing.are_centres clearing.are_targets)
-      (held job step clearing.centres clearing.targets rule clearing.are_centres clearing.are_targets discs executed clears));
+      (held job step clearing.centres clearing.targets rule clearing.are_centres clearing.are_targets margin discs executed clears));
 }

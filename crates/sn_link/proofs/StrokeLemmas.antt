@@ -11,7 +11,7 @@ use Rattle.sn_outline.specs.declared.job.Way.{Way}
 use Rattle.sn_outline.specs.declared.job.Way.TheVariants as way
 use Rattle.sn_raster.specs.Grid.{Grid, Node, place, InDisc, IsGridOf, greatest_margin}
 use Rattle.sn_raster.specs.Plane.{Plane, Has}
-use Rattle.sn_raster.proofs.Windows.{margin_is_greatest}
+use Rattle.sn_raster.specs.GridLaws.{MarginIsGreatest}
 use Rattle.sn_open.specs.Planes.{AreCentres}
 use Rattle.sn_open.specs.Region.{IsFreeCentre, IsFollowed, IsDrilledAtCentre}
 use Rattle.sn_open.specs.declared.stroke.Stroke.{Stroke}
@@ -37,9 +37,9 @@ one_grid g h job p q = λ k. record {
 }
 
 -- the tool of an executed step is not wider than twice the margin
-tool_in_margin : (job : Job) (step : StepJob) → Contains job.steps step → step.body.d ≤ 2 * greatest_margin job.steps
-tool_in_margin job step executed =
-    let all = (margin_is_greatest job.steps (greatest_margin job.steps)).0 (omega arith) in
+tool_in_margin : MarginIsGreatest → (job : Job) (step : StepJob) → Contains job.steps step → step.body.d ≤ 2 * greatest_margin job.steps
+tool_in_margin margin job step executed =
+    let all = (margin job.steps (greatest_margin job.steps)).0 (omega arith) in
     (All-contains (λ (s : StepJob). (s.body.d ≤ 2 * greatest_margin job.steps) × (s.side ≤ greatest_margin job.steps) × (s.corner ≤ 2 * greatest_margin job.steps))
     job.steps step all executed).0
 
@@ -71,7 +71,7 @@ module _ (job : Job) (step : StepJob) (centres targets : Plane) (rule : IsJob jo
       (are_centres.nodes c has.in_window).0 has n (subst (λ (p : ℕ). InDisc p d (place p c) n) pitch_is disc)
 
   -- a target is in the disc of a free centre of the window
-  module _ (discs : WindowHasDiscs) (executed : Contains job.steps step) (clears : step.way ≡ way.Clear) where
+  module _ (margin : MarginIsGreatest) (discs : WindowHasDiscs) (executed : Contains job.steps step) (clears : step.way ≡ way.Clear) where
     abbrev IsReachedBy : Way → Node → Type 0
     IsReachedBy w n = elim w [
       | way.Clear ↦ (c : Node) × IsFreeCentre job step c × InDisc job.pitch step.body.d (place job.pitch c) n
@@ -83,7 +83,7 @@ module _ (job : Job) (step : StepJob) (centres targets : Plane) (rule : IsJob jo
     held t has =
         let opened = ((are_targets.nodes t).0 has).1 in
         let (c, free, disc) = subst (λ (w : Way). IsReachedBy w t) clears opened.reached in
-        let inside = discs g job c t d rule are_centres.grid (tool_in_margin job step executed) opened.raw disc in
+        let inside = discs g job c t d rule are_centres.grid (tool_in_margin margin job step executed) opened.raw disc in
         (c, (are_centres.nodes c inside).1 free, subst (λ (p : ℕ). InDisc p d (place p c) t) (sym pitch_is) disc)
 
     -- a target is along a stroke

@@ -8,6 +8,7 @@ ghost use Rattle.sn_link.specs.SafeLaws.{PlannedMovesAreSafe, PlannedMovesEndAbo
 
 use sn_clear::laws::clearing;
 use sn_open::laws::outside;
+use sn_raster::laws::grids;
 
 /// Laws of moves.
 pub fn moves()
@@ -52,5 +53,6 @@ pub fn planned_moves()
     ensures thrifty { ClearingStepsAreThrifty }
 {
     clearing();
+    grids();
     outside();
 }

@@ -11,6 +11,7 @@ ghost use Rattle.sn_open.specs.Window.{columns, rows, node_at};
 use sn_geom::{REACH, Seg, Um};
 use sn_open::{columns_of, rows_of};
 use sn_raster::Grid;
+use sn_raster::laws::nearness;
 
 /// Places of an axis of a window, counted from its first: those from one up to another.
 #[derive(Clone, Copy)]
@@ -28,6 +29,7 @@ pub(crate) fn columns_near(g: &Grid, d: u32, way: &Seg) -> Span
         → (result.from ≤ column) × (column < result.to) }
 {
     g.rule();
+    nearness();
     places_near(d, way.a.x, way.b.x, g.pitch, g.i0, columns_of(g))
 }
 
@@ -39,6 +41,7 @@ pub(crate) fn rows_near(g: &Grid, d: u32, way: &Seg) -> Span
         → (result.from ≤ row) × (row < result.to) }
 {
     g.rule();
+    nearness();
     places_near(d, way.a.y, way.b.y, g.pitch, g.j0, rows_of(g))
 }
 

@@ -1,7 +1,6 @@
 use Rattle.std.proofs.Common.{◌<◌, ap, subst, sym, ◌∙◌}
 use Rattle.sn_raster.specs.Grid.{place}
 use Rattle.sn_raster.proofs.Axis.{kept}
-use Rattle.sn_raster.proofs.Besides.{near_across}
 use Rattle.sn_open.specs.Window.{node_at}
 use Rattle.sn_link.proofs.SpanLemmas.{beside_as}
 use Rattle.sn_link.proofs.span.columns_near.Goals as goal
@@ -13,4 +12,4 @@ returns-clause-all c = λ column row below near.
     let first = kept _ c.g.invariant.ends.columns.0 ∙ ap (λ g. g.i0) c.g.view_is in
     c.places_near.ensures.all column (subst (λ n. column < n) (sym c.columns_of.ensures.value) below)
     (beside_as c.args.d g.pitch _ column way.a.x way.b.x g.i0 _ first (ap (λ g. g.pitch) c.g.view_is)
-    (near_across c.args.d way.a way.b (place g.pitch (node_at g column row)) near))
+    (c.nearness.ensures c.args.d way.a way.b (place g.pitch (node_at g column row)) near).0)
