@@ -1,6 +1,6 @@
 #!/usr/bin/env bash
 # Builds jobs with the crate sn_flow and compares them, or the text of the refusal, with cases: tools/job_check.sh FILE, where
-# FILE has a case a line, as JSON. No program calls sn_flow yet, so a small one is made in a scratch repository beside a copy
+# FILE has a case a line, as JSON. A small program that calls it is made in a scratch repository beside a copy
 # of the crates. It is not part of the gate. Grids, and what only a grid refuses, are not compared.
 cases=$(readlink -f "${1:-/dev/null}")
 cd "$(dirname "$0")/.." || exit 1
@@ -16,13 +16,13 @@ for crate in sn_geom sn_outline sn_lex sn_p21 sn_frame sn_entity sn_model sn_wor
   cp -r "crates/$crate" "$folder/crates/"
   grep "^$crate:" crates.txt >> "$folder/crates.txt"
 done
-echo "job_check: sn_flow sn_refs sn_model sn_entity sn_frame sn_outline sn_geom sn_p21 sn_lex" >> "$folder/crates.txt"
+echo "job_check: sn_flow sn_words sn_refs sn_model sn_entity sn_frame sn_outline sn_geom sn_p21 sn_lex" >> "$folder/crates.txt"
 cat > "$folder/crates/job_check/src/main.rt" << 'RATTLE'
 //! Writes the job of a part, or why it has none.
 #![tactic(auto)]
 
 use sn_entity::EntFault;
-use sn_flow::{JobFault, Opts, Words, job, values};
+use sn_flow::{JobFault, job};
 use sn_frame::FrameFault;
 use sn_geom::{Pt, Pt3};
 use sn_lex::LexFault;
@@ -30,6 +30,7 @@ use sn_model::{ModelFault, build};
 use sn_outline::{Bottom, Job, Shape, StepJob, Way};
 use sn_p21::{P21Fault, read_file};
 use sn_refs::{RefFault, check};
+use sn_words::{Opts, Words, values};
 use std::{env, fs, io};
 
 fn lex_fault(rt: &HostRuntime, fault: LexFault) -> io::Result<()> {

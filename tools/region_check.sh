@@ -23,7 +23,7 @@ for crate in sn_geom sn_outline sn_raster sn_open sn_clear sn_lex sn_p21 sn_fram
   cp -r "crates/$crate" "$folder/crates/"
   grep "^$crate:" crates.txt >> "$folder/crates.txt"
 done
-echo "region_check: sn_clear sn_open sn_raster sn_flow sn_refs sn_model sn_p21 sn_outline sn_geom" >> "$folder/crates.txt"
+echo "region_check: sn_clear sn_open sn_raster sn_flow sn_words sn_refs sn_model sn_p21 sn_outline sn_geom" >> "$folder/crates.txt"
 cat > "$folder/crates/region_check/src/main.rt" << 'RATTLE'
 //! Writes the planes and the strokes of an executed step of a part, and how long they take.
 #![tactic(auto)]
@@ -35,7 +35,7 @@ ghost use Rattle.sn_open.specs.Reach.{IsExecuted};
 ghost use Rattle.sn_open.specs.Window.{rows};
 
 use sn_clear::strokes;
-use sn_flow::{Opts, Words, job, values};
+use sn_flow::job;
 use sn_geom::Memory;
 use sn_model::build;
 use sn_open::{Allowed, Centres, Opening, Required, columns_of, has_at, rows_of};
@@ -43,6 +43,7 @@ use sn_outline::{Job, StepJob, Way, is_proper};
 use sn_p21::read_file;
 use sn_raster::{Bits, Grid};
 use sn_refs::check;
+use sn_words::{Opts, Words, values};
 use std::alloc::Global;
 use std::time::Instant;
 use std::{env, fs, io};

@@ -15,7 +15,7 @@ use Rattle.sn_feature.specs.declared.parts.StepParts.{StepParts}
 use Rattle.sn_feature.specs.declared.site.Site.{Site}
 use Rattle.sn_feature.specs.declared.sketch.Sketch.{Sketch}
 use Rattle.sn_outline.specs.declared.outline.Shape.{Shape}
-use Rattle.sn_feature.specs.Outline.{sketch_of, is_bad_outline, is_reached, outline_points, placed_shape, shape_at, straight_path, site_of, outline_site}
+use Rattle.sn_feature.specs.Outline.{sketch_of, is_bad_outline, lands_in_range, outline_points, placed_shape, shape_at, straight_path, site_of, outline_site}
 use Rattle.sn_feature.specs.Placement.{placement_of, composed_at, upright_at, upright_frame, plane_height}
 use Rattle.sn_feature.specs.Refusal.{◌>>=◌, refused_where, length_in_range, as_step_fault}
 use Rattle.sn_feature.specs.Step.{placed_feature, parts_of, lowest_tip, judged, step_by}
@@ -97,7 +97,7 @@ upright_ok m outer n f h =
 
 shape_ok : (s : Site) (k : Sketch) (x : Shape) → shape_at s k ≡ Ok x → x ≡ placed_shape s.frame k
 unfolding shape_at
-shape_ok s k x h = sym (shape_if_ok (list_all (is_reached s.frame) (outline_points k)) (placed_shape s.frame k) x _ h)
+shape_ok s k x h = sym (shape_if_ok (list_all (lands_in_range s.frame) (outline_points k)) (placed_shape s.frame k) x _ h)
 
 pub placed_ok : (m : ModelContent) (w : Transform) (f : Feature) (placed : PlacedFeature) → placed_feature m w f ≡ Ok placed → IsPlaced m f placed
 unfolding placed_feature

@@ -1,4 +1,6 @@
 mod Chains
+mod FormLemmas
+mod LongPolylines
 mod PutLemmas
 mod Proper
 mod OutlineProofs

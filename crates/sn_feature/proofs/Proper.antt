@@ -30,7 +30,8 @@ use Rattle.sn_feature.specs.declared.sketch.Sketch.{Sketch}
 use Rattle.sn_feature.specs.declared.sketch.Sketch.TheVariants.{Rectangle, Circle, Polygon, Trail}
 use Rattle.sn_feature.specs.Entities.{listed, length_of, profile_length_of, course_of, feed_of, speed_of}
 use Rattle.sn_feature.specs.Outline.{at, origin, plane_point, polyline, polyline_count, reach, straight, heading, trail, sketch_of, is_upward, is_bad_line, is_bad_course, is_bad_outline, placed_shape, between, put}
-use Rattle.sn_feature.specs.Step.{placed_feature, judged, parts_of, AreProper}
+use Rattle.sn_feature.specs.Step.{placed_feature, judged, parts_of}
+use Rattle.sn_feature.specs.StepRule.{AreProper}
 use Rattle.sn_feature.specs.Targets.{LeadsTask, HasDiameter, IsSized}
 use Rattle.sn_feature.specs.Tooling.{body_of, point_length, axial_depth, radial_depth, is_hole_of, is_slot_of, is_drilling, way_of, is_hole, is_for, can_cut, is_wrong_tool}
 use Rattle.sn_feature.specs.declared.parts.StepParts.{StepParts}

@@ -6,7 +6,7 @@ use Rattle.sn_geom.specs.declared.units.Pt.{Pt}
 use Rattle.sn_frame.specs.declared.frame.FrameFault.{FrameFault}
 use Rattle.sn_frame.specs.declared.frame.FrameFault.TheVariants.{OutOfRange}
 use Rattle.sn_feature.specs.declared.site.Site.{Site}
-use Rattle.sn_feature.specs.Outline.{put, is_reached, put_at, points_at}
+use Rattle.sn_feature.specs.Outline.{put, lands_in_range, put_at, points_at}
 
 module _ {A : Type 0} (place : A → A) (test : A → Bool) where
   pub read_at : (xs : List A) (i : ℕ) (d : A) → i < length xs → get_or (map place (take i xs) ++ drop i xs) i d ≡ get_or xs i d
@@ -68,13 +68,13 @@ of_refusal : (b : Bool) (e : FrameFault) (p : Pt) (n : ℕ) → Err e ≡ (if b 
 of_refusal true e p n h = absurd cc
 of_refusal false e p n h = (refl, cc)
 
-put_ok : (s : Site) (p q : Pt) → Ok q ≡ put_at s p → (is_reached s.frame p ≡ true) × (q ≡ put s.frame p)
+put_ok : (s : Site) (p q : Pt) → Ok q ≡ put_at s p → (lands_in_range s.frame p ≡ true) × (q ≡ put s.frame p)
 unfolding put_at
-put_ok s p q h = of_test (is_reached s.frame p) q (put s.frame p) s.placement h
+put_ok s p q h = of_test (lands_in_range s.frame p) q (put s.frame p) s.placement h
 
-put_err : (s : Site) (p : Pt) (e : FrameFault) → Err e ≡ put_at s p → (is_reached s.frame p ≡ false) × (OutOfRange s.placement ≡ e)
+put_err : (s : Site) (p : Pt) (e : FrameFault) → Err e ≡ put_at s p → (lands_in_range s.frame p ≡ false) × (OutOfRange s.placement ≡ e)
 unfolding put_at
-put_err s p e h = of_refusal (is_reached s.frame p) e (put s.frame p) s.placement h
+put_err s p e h = of_refusal (lands_in_range s.frame p) e (put s.frame p) s.placement h
 
 by_true : (b : Bool) (ps : List Pt) (n : ℕ) → b ≡ true → Ok ps ≡ (let r : Result (List Pt) FrameFault = if b then Ok ps else Err (OutOfRange n) in r)
 by_true true ps n h = refl
@@ -86,25 +86,25 @@ by_false false ps n h = refl
 
 module _ (s : Site) (ps : List Pt) (i : ℕ) (qs : List Pt) (at : qs ≡ map (put s.frame) (take i ps) ++ drop i ps) where
   here : (p : Pt) → i < length ps → p ≡ get_or qs i p → p ≡ get_or ps i p
-  here p h is = is ∙ (ap (λ (xs : List Pt). get_or xs i p) at ∙ read_at (put s.frame) (is_reached s.frame) ps i p h)
+  here p h is = is ∙ (ap (λ (xs : List Pt). get_or xs i p) at ∙ read_at (put s.frame) (lands_in_range s.frame) ps i p h)
 
   pub put_stops : (p : Pt) (e : FrameFault) → i < length ps → p ≡ get_or qs i p → Err e ≡ put_at s p → Err e ≡ points_at s ps
   unfolding points_at
   put_stops p e h is told =
       let refused = put_err s p e told in
-      let out : is_reached s.frame (get_or ps i p) ≡ false = ap (is_reached s.frame) (sym (here p h is)) ∙ refused.0 in
-      sym (ap Err refused.1) ∙ by_false (list_all (is_reached s.frame) ps) (map (put s.frame) ps) s.placement (not_all (put s.frame) (is_reached s.frame) ps i p h out)
+      let out : lands_in_range s.frame (get_or ps i p) ≡ false = ap (lands_in_range s.frame) (sym (here p h is)) ∙ refused.0 in
+      sym (ap Err refused.1) ∙ by_false (list_all (lands_in_range s.frame) ps) (map (put s.frame) ps) s.placement (not_all (put s.frame) (lands_in_range s.frame) ps i p h out)
 
-  pub put_goes : (p q : Pt) → i < length ps → p ≡ get_or qs i p → list_all (is_reached s.frame) (take i ps) ≡ true → Ok q ≡ put_at s p → (set qs i q ≡ map (put s.frame) (take (i + 1) ps) ++ drop (i + 1) ps) × (list_all (is_reached s.frame) (take (i + 1) ps) ≡ true)
+  pub put_goes : (p q : Pt) → i < length ps → p ≡ get_or qs i p → list_all (lands_in_range s.frame) (take i ps) ≡ true → Ok q ≡ put_at s p → (set qs i q ≡ map (put s.frame) (take (i + 1) ps) ++ drop (i + 1) ps) × (list_all (lands_in_range s.frame) (take (i + 1) ps) ≡ true)
   put_goes p q h is before told =
       let done = put_ok s p q told in
       let same = here p h is in (
-        ap (λ (x : Pt). set qs i x) done.1 ∙ (ap (λ (x : Pt). set qs i (put s.frame x)) same ∙ (ap (λ (xs : List Pt). set xs i (put s.frame (get_or ps i p))) at ∙ write_at (put s.frame) (is_reached s.frame) ps i p h)),
-        all_at (put s.frame) (is_reached s.frame) ps i p h before (ap (is_reached s.frame) (sym same) ∙ done.0),
+        ap (λ (x : Pt). set qs i x) done.1 ∙ (ap (λ (x : Pt). set qs i (put s.frame x)) same ∙ (ap (λ (xs : List Pt). set xs i (put s.frame (get_or ps i p))) at ∙ write_at (put s.frame) (lands_in_range s.frame) ps i p h)),
+        all_at (put s.frame) (lands_in_range s.frame) ps i p h before (ap (lands_in_range s.frame) (sym same) ∙ done.0),
       )
 
-  pub put_ends : length ps ≤ i → list_all (is_reached s.frame) (take i ps) ≡ true → Ok qs ≡ points_at s ps
+  pub put_ends : length ps ≤ i → list_all (lands_in_range s.frame) (take i ps) ≡ true → Ok qs ≡ points_at s ps
   unfolding points_at
   put_ends h before =
-      ap Ok (at ∙ all_placed (put s.frame) (is_reached s.frame) ps i h)
-      ∙ by_true (list_all (is_reached s.frame) ps) (map (put s.frame) ps) s.placement (all_taken (put s.frame) (is_reached s.frame) ps i h before)
+      ap Ok (at ∙ all_placed (put s.frame) (lands_in_range s.frame) ps i h)
+      ∙ by_true (list_all (lands_in_range s.frame) ps) (map (put s.frame) ps) s.placement (all_taken (put s.frame) (lands_in_range s.frame) ps i h before)

@@ -23,7 +23,7 @@ use Rattle.sn_feature.specs.declared.parts.PlacedFeature.{PlacedFeature}
 use Rattle.sn_feature.specs.declared.parts.StepParts.{StepParts}
 use Rattle.sn_feature.specs.declared.site.Site.{Site}
 use Rattle.sn_feature.specs.Entities.{workingstep_of, feature_of, tool_of, task_of}
-use Rattle.sn_feature.specs.Outline.{sketch_of, is_bad_outline, is_reached, outline_points, placed_shape, put, shape_at, path_direction, straight_path, profile_placement, site_of, outline_site}
+use Rattle.sn_feature.specs.Outline.{sketch_of, is_bad_outline, lands_in_range, outline_points, placed_shape, put, shape_at, path_direction, straight_path, profile_placement, site_of, outline_site}
 use Rattle.sn_feature.specs.Placement.{axis_of, reference_of, location, placement_of, composed_at, upright_at, ratios, upright_frame, plane_height}
 use Rattle.sn_feature.specs.Refusal.{◌>>=◌, refused_where, length_in_range, as_step_fault}
 use Rattle.sn_feature.specs.Step.{placed_feature, parts_of, lowest_tip, judged, step_by, step_of}
@@ -197,9 +197,9 @@ profile_refused m f frame n why is h = by_profile (profile_placement m f.form) i
   by_profile None e = absurd cc
   by_profile (Some k) e = let same : k ≡ n = cc in bind_err (upright_frame m frame k) _ why (ap (upright_frame m frame) same ∙ h)
 
-point_refused : (m : ModelContent) (f : Feature) (site : Site) (p : Pt) → Contains (outline_points (sketch_of m f.form)) p → is_reached site.frame p ≡ false → shape_at site (sketch_of m f.form) ≡ Err (OutOfRange site.placement)
+point_refused : (m : ModelContent) (f : Feature) (site : Site) (p : Pt) → Contains (outline_points (sketch_of m f.form)) p → lands_in_range site.frame p ≡ false → shape_at site (sketch_of m f.form) ≡ Err (OutOfRange site.placement)
 unfolding shape_at
-point_refused m f site p among h = by_test (list_all (is_reached site.frame) (outline_points (sketch_of m f.form))) (not_all (put site.frame) (is_reached site.frame) (outline_points (sketch_of m f.form)) among.0 p among.1 (ap (is_reached site.frame) among.2 ∙ h)) where
+point_refused m f site p among h = by_test (list_all (lands_in_range site.frame) (outline_points (sketch_of m f.form))) (not_all (put site.frame) (lands_in_range site.frame) (outline_points (sketch_of m f.form)) among.0 p among.1 (ap (lands_in_range site.frame) among.2 ∙ h)) where
   by_test : (b : Bool) → b ≡ false → (let r : Result Shape FrameFault = if b then Ok (placed_shape site.frame (sketch_of m f.form)) else Err (OutOfRange site.placement) in r) ≡ Err (OutOfRange site.placement)
   by_test true e = absurd cc
   by_test false e = refl

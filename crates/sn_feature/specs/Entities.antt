@@ -116,7 +116,7 @@ boundary_of m n = boundary_from (row_of_number n m) m n
 unfoldable pub profile_of : ModelContent → ℕ → Profile
 profile_of m n = record { placement = named_if m n 0; boundary = boundary_of m n }
 
--- what a TOLERANCED_LENGTH_MEASURE or a NUMERIC_PARAMETER gives, in micrometres
+-- what a TOLERANCED_LENGTH_MEASURE or a NUMERIC_PARAMETER gives, in tenths of a micrometre
 unfoldable pub length_of : ModelContent → ℕ → ℕ
 length_of m n = amount m n 0
 

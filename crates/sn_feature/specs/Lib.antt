@@ -1,4 +1,5 @@
 pub mod Entities
+pub mod FormLaws
 pub mod Targets
 pub mod Placement
 pub mod Refusal
@@ -7,3 +8,4 @@ pub mod Tooling
 pub mod Step
 pub mod OutlineLaws
 pub mod StepLaws
+pub mod StepRule

@@ -148,16 +148,16 @@ unfoldable pub put : Transform → Pt → Pt
 put f p = let q = applied f (flat p) in at q.x q.y
 
 -- that place is in the range of coordinates
-unfoldable pub is_reached : Transform → Pt → Bool
-is_reached f p = is_in_range (applied f (flat p))
+unfoldable pub lands_in_range : Transform → Pt → Bool
+lands_in_range f p = is_in_range (applied f (flat p))
 
 -- the place, unless it leaves the range
 unfoldable pub put_at : Site → Pt → Result Pt FrameFault
-put_at s p = if is_reached s.frame p then Ok (put s.frame p) else Err (OutOfRange s.placement)
+put_at s p = if lands_in_range s.frame p then Ok (put s.frame p) else Err (OutOfRange s.placement)
 
 -- the places, unless one of them leaves the range
 unfoldable pub points_at : Site → List Pt → Result (List Pt) FrameFault
-points_at s ps = if list_all (is_reached s.frame) ps then Ok (map (put s.frame) ps) else Err (OutOfRange s.placement)
+points_at s ps = if list_all (lands_in_range s.frame) ps then Ok (map (put s.frame) ps) else Err (OutOfRange s.placement)
 
 -- the corners, the centre or the points of the outline
 abbrev pub outline_points : Sketch → List Pt
@@ -179,7 +179,7 @@ placed_shape f (Trail ps width) = shape.Trail (map (put f) ps) width
 -- the outline of a sketch at a site, unless one of its points leaves the range
 unfoldable pub shape_at : Site → Sketch → Result Shape FrameFault
 shape_at s sketch =
-    if list_all (is_reached s.frame) (outline_points sketch) then Ok (placed_shape s.frame sketch) else Err (OutOfRange s.placement)
+    if list_all (lands_in_range s.frame) (outline_points sketch) then Ok (placed_shape s.frame sketch) else Err (OutOfRange s.placement)
 
 abbrev pub direction_if : Course → Option ℕ
 direction_if (course.Linear c) = Some c.direction

@@ -1,6 +1,7 @@
 -- Laws of outlines (this project's own).
-use Rattle.std.specs.Prelude.{◌≡◌, ◌≢◌, ℕ, ◌≤◌, ◌*◌, ◌+◌, ℤ, pos, negsuc, neg_ℤ, ◌-ℤ◌, List, [], ◌∷◌, ◌++◌, unsigned_abs}
+use Rattle.std.specs.Prelude.{◌≡◌, ◌≢◌, ℕ, ◌≤◌, ◌*◌, ◌+◌, ℤ, pos, negsuc, neg_ℤ, ◌-ℤ◌, true, false, List, [], ◌∷◌, ◌++◌, unsigned_abs}
 use Rattle.sn_geom.specs.declared.units.Pt.{Pt}
+use Rattle.sn_model.specs.ModelContent.{ModelContent}
 use Rattle.sn_frame.specs.declared.direction.Axis.{Axis}
 use Rattle.sn_frame.specs.declared.direction.Axis.TheVariants.{X, Y, Z}
 use Rattle.sn_frame.specs.declared.direction.Direction.{Direction}
@@ -8,8 +9,14 @@ use Rattle.sn_frame.specs.declared.direction.Sign.{Sign}
 use Rattle.sn_frame.specs.declared.direction.Sign.TheVariants.{Plus, Minus}
 use Rattle.sn_frame.specs.Frame.{Transform}
 use Rattle.sn_outline.specs.declared.outline.Shape.TheVariants.{Rect}
+use Rattle.sn_feature.specs.declared.entities.Boundary.TheVariants as boundary
+use Rattle.sn_feature.specs.declared.entities.Course.TheVariants as course
+use Rattle.sn_feature.specs.declared.entities.Form.TheVariants as form
+use Rattle.sn_feature.specs.declared.entities.Pocket.{Pocket}
+use Rattle.sn_feature.specs.declared.entities.Slot.{Slot}
 use Rattle.sn_feature.specs.declared.sketch.Sketch.TheVariants.{Rectangle, Polygon}
-use Rattle.sn_feature.specs.Outline.{at, origin, corners, centred, face_sketch, straight, placed_shape}
+use Rattle.sn_feature.specs.Entities.{course_of, profile_of, profile_length_of}
+use Rattle.sn_feature.specs.Outline.{at, origin, corners, centred, face_sketch, straight, polyline_count, is_bad_outline, placed_shape}
 
 abbrev pub to : Axis → Sign → Direction
 to a s = record { along = a; sign = s }
@@ -64,3 +71,15 @@ RepeatedLastIsDropped =
     ((p : Pt) (ps : List Pt) → corners (p ∷ (ps ++ p ∷ [])) ≡ p ∷ ps)
     × ((p q : Pt) (ps : List Pt) → q ≢ p → corners (p ∷ (ps ++ q ∷ [])) ≡ p ∷ (ps ++ q ∷ []))
     × ((p : Pt) → corners (p ∷ []) ≡ p ∷ [])
+
+-- a polyline may list 1,000 points and no more: the longest is a good trail of some width and a good boundary, and one point
+-- more makes both bad
+pub record LongPolylineIsBad : Type 0 where
+  pub trail : (m : ModelContent) (s : Slot) (n : ℕ) → course_of m s.course ≡ course.General n → 1 ≤ profile_length_of m s.swept
+      → polyline_count m n ≡ 1000 → is_bad_outline m (form.Slot s) ≡ false
+  pub long_trail : (m : ModelContent) (s : Slot) (n : ℕ) → course_of m s.course ≡ course.General n
+      → polyline_count m n ≡ 1001 → is_bad_outline m (form.Slot s) ≡ true
+  pub polygon : (m : ModelContent) (p : Pocket) (n : ℕ) → (profile_of m p.boundary).boundary ≡ boundary.General n
+      → polyline_count m n ≡ 1000 → is_bad_outline m (form.Pocket p) ≡ false
+  pub long_polygon : (m : ModelContent) (p : Pocket) (n : ℕ) → (profile_of m p.boundary).boundary ≡ boundary.General n
+      → polyline_count m n ≡ 1001 → is_bad_outline m (form.Pocket p) ≡ true

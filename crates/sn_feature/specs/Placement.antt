@@ -9,7 +9,7 @@ use Rattle.sn_frame.specs.Frame.{Transform, composed, is_in_range, is_skew, is_u
 use Rattle.sn_feature.specs.Entities.{named, named_if, triple}
 use Rattle.sn_feature.specs.Refusal.{◌>>=◌}
 
--- the coordinates of a point, in micrometres
+-- the coordinates of a point, in tenths of a micrometre
 unfoldable pub point_of : ModelContent → ℕ → Pt3
 point_of m n = let t = triple m n 0 in record { x = t.x; y = t.y; z = t.z }
 

@@ -1,12 +1,10 @@
 -- MEANING (this project's own): an executed machining workingstep as a step of a job, and why it is refused.
-use Rattle.std.specs.Prelude.{ℕ, ◌≤◌, ◌*◌, ℤ, ◌+ℤ◌, int_lt, [], IfSome, Result, Ok}
-use Rattle.sn_geom.specs.declared.limits.TheConstants.{REACH}
+use Rattle.std.specs.Prelude.{ℕ, ℤ, ◌+ℤ◌, int_lt, [], Result, Ok}
 use Rattle.sn_model.specs.ModelContent.{ModelContent}
 use Rattle.sn_frame.specs.declared.frame.FrameFault.{FrameFault}
 use Rattle.sn_frame.specs.Frame.{Transform}
 use Rattle.sn_outline.specs.declared.job.StepJob.{StepJob}
 use Rattle.sn_outline.specs.Job.{tip_floor}
-use Rattle.sn_outline.specs.JobRule.{IsProper}
 use Rattle.sn_feature.specs.declared.entities.Feature.{Feature}
 use Rattle.sn_feature.specs.declared.entities.Task.{Task}
 use Rattle.sn_feature.specs.declared.fault.StepFault.{StepFault}
@@ -101,11 +99,3 @@ step_of m workpiece raw_top ws = step_by m workpiece raw_top (task_of m ws)
 -- the Z of the location of a workingstep's security plane
 unfoldable pub security_of : ModelContent → ℕ → ℤ
 security_of m ws = plane_height m (workingstep_of m ws).security
-
--- the parts make a proper step with each tool number and each corner diameter within its limit
-abbrev pub AreProper : StepParts → Type 0
-AreProper p = (tool corner : ℕ) → corner ≤ 2 * REACH → IsProper (step_with p tool corner)
-
--- a corner diameter that is given is within its limit
-abbrev pub HasCorner : StepParts → Type 0
-HasCorner p = IfSome p.corner (λ corner. corner ≤ 2 * REACH)

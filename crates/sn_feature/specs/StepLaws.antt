@@ -17,7 +17,7 @@ use Rattle.sn_feature.specs.declared.parts.PlacedFeature.{PlacedFeature}
 use Rattle.sn_feature.specs.declared.parts.StepParts.{StepParts}
 use Rattle.sn_feature.specs.declared.site.Site.{Site}
 use Rattle.sn_feature.specs.Entities.{workingstep_of, feature_of, operation_of, tool_of}
-use Rattle.sn_feature.specs.Outline.{sketch_of, is_bad_outline, is_reached, outline_points, shape_at, path_direction, straight_path, profile_placement, site_of, outline_site}
+use Rattle.sn_feature.specs.Outline.{sketch_of, is_bad_outline, lands_in_range, outline_points, shape_at, path_direction, straight_path, profile_placement, site_of, outline_site}
 use Rattle.sn_feature.specs.Placement.{axis_of, reference_of, placement_of, ratios, upright_frame, plane_height}
 use Rattle.sn_feature.specs.Step.{placed_feature, parts_of, lowest_tip, step_by, step_of}
 use Rattle.sn_feature.specs.Tooling.{point_length, is_wrong_tool}
@@ -79,7 +79,7 @@ pub record FrameFaultsInOrder (m : ModelContent) (w : Transform) (f : Feature) :
   -- the placement of its profile is skew, leaves the range or turns +Z elsewhere
   pub profile : (frame : Transform) (n : ℕ) (why : FrameFault) → upright_frame m w f.placement ≡ Ok frame → straight_path m f.form ≡ Ok tt → profile_placement m f.form ≡ Some n → upright_frame m frame n ≡ Err why → placed_feature m w f ≡ Err why
   -- a point of its outline leaves the range
-  pub point : (frame : Transform) (site : Site) (p : Pt) → upright_frame m w f.placement ≡ Ok frame → straight_path m f.form ≡ Ok tt → outline_site m (site_of frame f.placement) f.form ≡ Ok site → Contains (outline_points (sketch_of m f.form)) p → is_reached site.frame p ≡ false → placed_feature m w f ≡ Err (OutOfRange site.placement)
+  pub point : (frame : Transform) (site : Site) (p : Pt) → upright_frame m w f.placement ≡ Ok frame → straight_path m f.form ≡ Ok tt → outline_site m (site_of frame f.placement) f.form ≡ Ok site → Contains (outline_points (sketch_of m f.form)) p → lands_in_range site.frame p ≡ false → placed_feature m w f ≡ Err (OutOfRange site.placement)
   -- its floor leaves the range
   pub floor : (frame : Transform) (site : Site) (s : Shape) → upright_frame m w f.placement ≡ Ok frame → straight_path m f.form ≡ Ok tt → outline_site m (site_of frame f.placement) f.form ≡ Ok site → shape_at site (sketch_of m f.form) ≡ Ok s → ¬ IsLength (frame.shift.z +ℤ plane_height m f.depth) → placed_feature m w f ≡ Err (OutOfRange f.placement)
 

@@ -117,7 +117,7 @@ pub struct Rectangular {
     pub length: u32,
 }
 
-/// A machining operation. Lengths are micrometres; an allowance that is not given is 0.
+/// A machining operation. Lengths are tenths of a micrometre; an allowance that is not given is 0.
 #[derive(Clone, Copy)]
 pub struct Operation {
     pub cutting: Cutting,
@@ -141,7 +141,7 @@ pub enum Cutting {
     Drilling,
 }
 
-/// A tool. Lengths are micrometres; an edge radius that is not given is 0.
+/// A tool. Lengths are tenths of a micrometre; an edge radius that is not given is 0.
 #[derive(Clone, Copy)]
 pub struct Tool {
     pub cutter: Cutter,
@@ -204,7 +204,8 @@ impl Form {
             RowId::PlanarFace => Form::Face(Face::read(c, n)),
             RowId::ClosedPocket => Form::Pocket(Pocket::read(c, n)),
             RowId::Slot => Form::Slot(Slot::read(c, n)),
-            _ => Form::Hole(Hole::read(c, n)),
+            RowId::RoundHole => Form::Hole(Hole::read(c, n)),
+            _ => unreachable!(),
         }
     }
 }
@@ -277,7 +278,8 @@ impl Course {
     {
         match c.fields(n).row {
             RowId::LinearPath => Course::Linear(LinearCourse::read(c, n)),
-            _ => Course::General(polyline(c, n)),
+            RowId::GeneralPath => Course::General(polyline(c, n)),
+            _ => unreachable!(),
         }
     }
 }
@@ -331,7 +333,8 @@ impl Boundary {
         match c.fields(n).row {
             RowId::GeneralClosedProfile => Boundary::General(curve(c, n)),
             RowId::RectangularClosedProfile => Boundary::Rectangular(Rectangular::read(c, n)),
-            _ => Boundary::Circular(diameter(c, n)),
+            RowId::CircularClosedProfile => Boundary::Circular(diameter(c, n)),
+            _ => unreachable!(),
         }
     }
 }
@@ -368,7 +371,7 @@ fn diameter(c: &Checked, n: u32) -> u32
     c.one(n, 1)
 }
 
-/// The length that a TOLERANCED_LENGTH_MEASURE or a NUMERIC_PARAMETER gives, in micrometres.
+/// The length that a TOLERANCED_LENGTH_MEASURE or a NUMERIC_PARAMETER gives, in tenths of a micrometre.
 #[tactic(auto, unfolding(crate::specs::Entities::length_of))]
 pub fn length(c: &Checked, n: u32) -> u32
     requires { IsTarget c.now Group.Len n }
@@ -378,7 +381,7 @@ pub fn length(c: &Checked, n: u32) -> u32
     c.num(n, 0).unsigned_abs()
 }
 
-/// The length of a LINEAR_PROFILE or the width of a SQUARE_U_PROFILE, in micrometres.
+/// The length of a LINEAR_PROFILE or the width of a SQUARE_U_PROFILE, in tenths of a micrometre.
 #[tactic(auto, unfolding(crate::specs::Entities::profile_length_of))]
 pub fn profile_length(c: &Checked, n: u32) -> u32
     requires { IsLinearProfile c.now n }
@@ -401,7 +404,8 @@ impl Operation {
             RowId::PlaneFinishMilling => Operation::plane(c, n),
             RowId::BottomAndSideRoughMilling => Operation::bottom_and_side(c, n),
             RowId::BottomAndSideFinishMilling => Operation::bottom_and_side(c, n),
-            _ => Operation::drilling(c, n),
+            RowId::Drilling => Operation::drilling(c, n),
+            _ => unreachable!(),
         }
     }
 
@@ -502,7 +506,8 @@ impl Cutter {
     {
         match c.fields(n).row {
             RowId::TwistDrill => Cutter::TwistDrill,
-            _ => Cutter::Endmill,
+            RowId::Endmill => Cutter::Endmill,
+            _ => unreachable!(),
         }
     }
 }

@@ -13,7 +13,8 @@ pub enum StepFault {
     /// The number of a feature that has its floor above its top.
     #[error("feature {0} has its floor above its top")]
     Depth(u32),
-    /// The number of a feature without an outline that encloses something.
+    /// The number of a feature with a bad outline: a size of it is 0, its path lies along Z, a polygon has fewer than 3 corners or
+    /// a trail fewer than 2 points, or its polyline lists more than 1,000.
     #[error("feature {0} has a bad outline")]
     BadOutline(u32),
     /// The number of a workingstep whose tool is not one for its operation and its feature.

@@ -1,5 +1,6 @@
 //! Laws of the definitions. Each function's contract states laws, and the function does nothing.
-ghost use Rattle.sn_feature.specs.OutlineLaws.{SidesAreHalved, WidthOfFive, FaceLiesBesidePath, PathGoesInDirection, RepeatedLastIsDropped};
+ghost use Rattle.sn_feature.specs.FormLaws.{RowsHaveForms};
+ghost use Rattle.sn_feature.specs.OutlineLaws.{SidesAreHalved, WidthOfFive, FaceLiesBesidePath, PathGoesInDirection, RepeatedLastIsDropped, LongPolylineIsBad};
 ghost use Rattle.sn_feature.specs.StepLaws.{PartsTell, StepsAgree, NeverMemory, StepsAreFit, PointOfDrill, FaultsInOrder};
 
 /// Laws of outlines where they are drawn.
@@ -9,6 +10,12 @@ pub fn outlines()
     ensures faces { FaceLiesBesidePath }
     ensures paths { PathGoesInDirection }
     ensures polygons { RepeatedLastIsDropped }
+    ensures long { LongPolylineIsBad }
+{}
+
+/// Each row of the groups that a step leads to has a form, a bottom, a way of cutting or a cutter.
+pub fn rows_have_forms()
+    ensures { RowsHaveForms }
 {}
 
 /// Laws of the parts of steps.

@@ -16,7 +16,7 @@ pub struct PlacedFeature {
 }
 
 /// What an executed workingstep gives a step of a job: all but the number of its tool in the program, and the corner
-/// diameter where that depends on other steps. Lengths are micrometres, heights and places those of the setup.
+/// diameter where that depends on other steps. Lengths are tenths of a micrometre, heights and places those of the setup.
 #[derive(Drop)]
 pub struct StepParts {
     /// The instance number of the workingstep.
@@ -51,7 +51,7 @@ pub struct StepParts {
 }
 
 impl StepParts {
-    /// The step with the number of its tool in the program, from 1, and its corner diameter in micrometres.
+    /// The step with the number of its tool in the program, from 1, and its corner diameter in tenths of a micrometre.
     pub fn into_step(self, tool: u32, corner: u32) -> StepJob
         ensures { result ≡ step_with self tool corner }
     {

@@ -23,7 +23,7 @@ pub struct Site {
 
 impl Site {
     /// Where the frame puts a point of the plane Z = 0, seen from above.
-    #[tactic(auto, unfolding(crate::specs::Outline::put, crate::specs::Outline::is_reached, crate::specs::Outline::put_at))]
+    #[tactic(auto, unfolding(crate::specs::Outline::put, crate::specs::Outline::lands_in_range, crate::specs::Outline::put_at))]
     fn put(&self, p: &Pt) -> Result<Pt, FrameFault>
         ensures { result ≡ put_at self.now p.now }
     {

@@ -4,7 +4,8 @@ ghost use Rattle.sn_refs.specs.Target.{IsTarget};
 ghost use Rattle.sn_feature.specs.Outline.{sketch_of, is_bad_outline as is_bad_outline_by};
 ghost use Rattle.sn_feature.specs.Placement.{plane_height as height_of_plane};
 ghost use Rattle.sn_feature.specs.Refusal.{length_in_range as in_range};
-ghost use Rattle.sn_feature.specs.Step.{placed_feature, parts_of, judged, step_of, AreProper, HasCorner};
+ghost use Rattle.sn_feature.specs.Step.{placed_feature, parts_of, judged, step_of};
+ghost use Rattle.sn_feature.specs.StepRule.{AreProper, HasCorner};
 ghost use Rattle.sn_feature.specs.Targets.{LeadsForm, LeadsTask};
 ghost use Rattle.sn_outline.specs.JobRule.{IsRate};
 
@@ -142,7 +143,7 @@ fn judge(
 }
 
 /// The step of a workingstep in a setup in which the workpiece stands in this frame and the raw box has this top, in
-/// micrometres.
+/// tenths of a micrometre.
 #[tactic(auto, unfolding(crate::specs::Step::step_of, crate::specs::Step::step_by))]
 pub fn step(
     alloc: Global,

@@ -22,7 +22,7 @@ use Rattle.sn_feature.specs.Tooling.{is_wrong_tool, is_short_tool}
 use Rattle.sn_feature.specs.Step.{placed_feature, parts_of, lowest_tip, judged, step_by, step_of}
 use Rattle.sn_flow.specs.declared.fault.JobFault.{JobFault}
 use Rattle.sn_flow.specs.declared.fault.JobFault.TheVariants as fault
-use Rattle.sn_flow.specs.Faults.{of_walk, of_step, ◌or◌}
+use Rattle.sn_flow.specs.Faults.{of_walk, of_step, ◌failing_as◌}
 use Rattle.sn_flow.specs.Setup.{workpiece_frame, raw_block, block_box, security_height}
 use Rattle.sn_flow.specs.Steps.{step_among}
 use Rattle.sn_flow.specs.JobOf.{box_of_block, raw_box, not_below, all_parts, job_with, job_of}
@@ -74,7 +74,7 @@ step_tells m frame top ws =
     bind IsOfStep (as_step_fault (placed_feature m frame t.feature)) (λ placed. judged m t top (parts_of m t placed) >>= λ _. Ok (parts_of m t placed)) (of_frame (placed_feature m frame t.feature))
     (λ placed. bind IsOfStep (judged m t top (parts_of m t placed)) (λ _. Ok (parts_of m t placed)) (judged_tells m t top (parts_of m t placed)) (λ a. tt))
 
-step_or : (r : Result StepParts StepFault) → IfErr r IsOfStep → IfErr (r or of_step) IsOfJob
+step_or : (r : Result StepParts StepFault) → IfErr r IsOfStep → IfErr (r failing_as of_step) IsOfJob
 step_or (Ok p) h = tt
 step_or (Err (step.Frame why)) h = tt
 step_or (Err (step.Depth n)) h = tt
@@ -86,16 +86,16 @@ step_or (Err step.Memory) h = absurd h
 all_tell : (m : ModelContent) (frame : Transform) (top : ℤ) (steps : List ℕ) → IfErr (all_parts m frame top steps) IsOfJob
 all_tell m frame top [] = tt
 all_tell m frame top (ws ∷ steps) =
-    bind IsOfJob (step_of m frame top ws or of_step) (λ part. all_parts m frame top steps >>= λ parts. Ok (part ∷ parts)) (step_or (step_of m frame top ws) (step_tells m frame top ws)) (λ part. bind IsOfJob (all_parts m frame top steps) (λ parts. Ok (part ∷ parts)) (all_tell m frame top steps) (λ parts. tt))
+    bind IsOfJob (step_of m frame top ws failing_as of_step) (λ part. all_parts m frame top steps >>= λ parts. Ok (part ∷ parts)) (step_or (step_of m frame top ws) (step_tells m frame top ws)) (λ part. bind IsOfJob (all_parts m frame top steps) (λ parts. Ok (part ∷ parts)) (all_tell m frame top steps) (λ parts. tt))
 
-walk_or : (r : Result (List ℕ) WalkFault) → r ≢ Err walk.Memory → IfErr (r or of_walk) IsOfJob
+walk_or : (r : Result (List ℕ) WalkFault) → r ≢ Err walk.Memory → IfErr (r failing_as of_walk) IsOfJob
 walk_or (Ok steps) h = tt
 walk_or (Err (walk.Unset n)) h = tt
 walk_or (Err walk.TooManySteps) h = tt
 walk_or (Err (walk.SecondSetup n)) h = tt
 walk_or (Err walk.Memory) h = h refl
 
-frame_or : {A : Type 0} (r : Result A FrameFault) → IfErr (r or fault.Frame) IsOfJob
+frame_or : {A : Type 0} (r : Result A FrameFault) → IfErr (r failing_as fault.Frame) IsOfJob
 frame_or (Ok x) = tt
 frame_or (Err e) = tt
 
@@ -121,12 +121,12 @@ abbrev after_frame : ModelContent → Options → List ℕ → Transform → Res
 after_frame m o steps frame = raw_box m o.raw frame >>= after_raw m o steps frame
 
 abbrev after_walk : ModelContent → Options → List ℕ → Result Job JobFault
-after_walk m o steps = (workpiece_frame m or fault.Frame) >>= after_frame m o steps
+after_walk m o steps = (workpiece_frame m failing_as fault.Frame) >>= after_frame m o steps
 
 job_tells : ((m : ModelContent) (o : Options) → executed_of m o.sets ≢ Err walk.Memory) → (m : ModelContent) (o : Options) → IfErr (job_of m o) IsOfJob
 job_tells never m o =
-    bind IsOfJob (executed_of m o.sets or of_walk) (after_walk m o) (walk_or (executed_of m o.sets) (never m o)) (λ steps.
-    bind IsOfJob (workpiece_frame m or fault.Frame) (after_frame m o steps) (frame_or (workpiece_frame m)) (λ frame.
+    bind IsOfJob (executed_of m o.sets failing_as of_walk) (after_walk m o) (walk_or (executed_of m o.sets) (never m o)) (λ steps.
+    bind IsOfJob (workpiece_frame m failing_as fault.Frame) (after_frame m o steps) (frame_or (workpiece_frame m)) (λ frame.
     bind IsOfJob (raw_box m o.raw frame) (after_raw m o steps frame) (raw_tells m frame o.raw) (λ raw.
     bind IsOfJob (not_below raw.high.z (security_height m steps raw.high.z)) (after_height m o steps frame raw) (chosen_height (int_lt (security_height m steps raw.high.z) raw.high.z) (security_height m steps raw.high.z)) (λ sec.
     bind IsOfJob (all_parts m frame raw.high.z steps) (λ parts. Ok (job_with o raw sec parts)) (all_tell m frame raw.high.z steps) (λ parts. tt)))))
@@ -173,12 +173,12 @@ made_raw m o job steps frame (Ok raw) w b e = made_height m o job steps frame ra
 made_raw m o job steps frame (Err why) w b e = absurd (no_ok e)
 
 made_frame : (m : ModelContent) (o : Options) (job : Job) (steps : List ℕ) (r : Result Transform FrameFault) → executed_of m o.sets ≡ Ok steps
-    → ((r or fault.Frame) >>= λ frame. raw_box m o.raw frame >>= λ raw. not_below raw.high.z (security_height m steps raw.high.z) >>= λ sec. all_parts m frame raw.high.z steps >>= λ parts. Ok (job_with o raw sec parts)) ≡ Ok job → IsMade m o job
+    → ((r failing_as fault.Frame) >>= λ frame. raw_box m o.raw frame >>= λ raw. not_below raw.high.z (security_height m steps raw.high.z) >>= λ sec. all_parts m frame raw.high.z steps >>= λ parts. Ok (job_with o raw sec parts)) ≡ Ok job → IsMade m o job
 made_frame m o job steps (Ok frame) w e = made_raw m o job steps frame (raw_box m o.raw frame) w refl e
 made_frame m o job steps (Err why) w e = absurd (no_ok e)
 
 made_walk : (m : ModelContent) (o : Options) (job : Job) (r : Result (List ℕ) WalkFault) → executed_of m o.sets ≡ r
-    → ((r or of_walk) >>= λ steps. (workpiece_frame m or fault.Frame) >>= λ frame. raw_box m o.raw frame >>= λ raw. not_below raw.high.z (security_height m steps raw.high.z) >>= λ sec. all_parts m frame raw.high.z steps >>= λ parts. Ok (job_with o raw sec parts)) ≡ Ok job → IsMade m o job
+    → ((r failing_as of_walk) >>= λ steps. (workpiece_frame m failing_as fault.Frame) >>= λ frame. raw_box m o.raw frame >>= λ raw. not_below raw.high.z (security_height m steps raw.high.z) >>= λ sec. all_parts m frame raw.high.z steps >>= λ parts. Ok (job_with o raw sec parts)) ≡ Ok job → IsMade m o job
 made_walk m o job (Ok steps) w e = made_frame m o job steps (workpiece_frame m) w e
 made_walk m o job (Err why) w e = absurd (no_ok e)
 

@@ -14,7 +14,7 @@ use Rattle.sn_feature.specs.declared.parts.StepParts.{StepParts}
 use Rattle.sn_feature.specs.Refusal.{◌>>=◌}
 use Rattle.sn_flow.specs.declared.fault.JobFault.{JobFault}
 use Rattle.sn_flow.specs.declared.fault.JobFault.TheVariants.{Frame, RawUnknown, SecLow}
-use Rattle.sn_flow.specs.Faults.{of_walk, of_step, ◌or◌}
+use Rattle.sn_flow.specs.Faults.{of_walk, of_step, ◌failing_as◌}
 use Rattle.sn_flow.specs.Setup.{workpiece_frame, raw_block, block_box, security_height}
 use Rattle.sn_flow.specs.JobOf.{box_of_block, raw_box, not_below, all_parts, job_with, job_of}
 use Rattle.sn_flow.specs.JobOfLaws.{WorkpieceSecond, RawBoxThird, SecurityFourth, StepsLast, ElseTheJob}
@@ -31,10 +31,10 @@ after_raw : ModelContent → Options → List ℕ → Transform → Result RawBo
 after_raw m o steps frame r = r >>= λ raw. after_height m o steps frame raw (not_below raw.high.z (security_height m steps raw.high.z))
 
 after_frame : ModelContent → Options → List ℕ → Result Transform FrameFault → Result Job JobFault
-after_frame m o steps r = (r or Frame) >>= λ frame. after_raw m o steps frame (raw_box m o.raw frame)
+after_frame m o steps r = (r failing_as Frame) >>= λ frame. after_raw m o steps frame (raw_box m o.raw frame)
 
 after_walk : ModelContent → Options → Result (List ℕ) WalkFault → Result Job JobFault
-after_walk m o r = (r or of_walk) >>= λ steps. after_frame m o steps (workpiece_frame m)
+after_walk m o r = (r failing_as of_walk) >>= λ steps. after_frame m o steps (workpiece_frame m)
 
 whole : (m : ModelContent) (o : Options) → job_of m o ≡ after_walk m o (executed_of m o.sets)
 unfolding after_walk after_frame after_raw after_height after_parts
@@ -87,7 +87,7 @@ at_unknown m given frame none no_block = ap (λ (g : Option RawBox). raw_box m g
 
 at_block : (m : ModelContent) (given : Option RawBox) (frame : Transform) (block : ℕ) (why : FrameFault) → given ≡ None → raw_block m ≡ Some block → block_box m frame block ≡ Err why → raw_box m given frame ≡ Err (Frame why)
 at_block m given frame block why none some box =
-    ap (λ (g : Option RawBox). raw_box m g frame) none ∙ ap (box_of_block m frame) some ∙ ap (λ (r : Result RawBox FrameFault). r or Frame) box
+    ap (λ (g : Option RawBox). raw_box m g frame) none ∙ ap (box_of_block m frame) some ∙ ap (λ (r : Result RawBox FrameFault). r failing_as Frame) box
 
 below_is : (raw_top z : ℤ) → z <ℤ raw_top → not_below raw_top z ≡ Err SecLow
 below_is raw_top z low = ap (λ b. if b then Err SecLow else Ok z) (true_lt z raw_top low)

@@ -1,10 +1,11 @@
-pub mod ToolLemmas
-pub mod StepsLemmas
-pub mod FindLemmas
-pub mod SetupLemmas
-pub mod RuleLemmas
+mod OptionLemmas
 pub mod BoxLemmas
+pub mod FindLemmas
+pub mod JobLawLemmas
 pub mod JobLemmas
 pub mod PartsLemmas
+pub mod RuleLemmas
 pub mod SetupLawLemmas
-pub mod JobLawLemmas
+pub mod SetupLemmas
+pub mod StepsLemmas
+pub mod ToolLemmas

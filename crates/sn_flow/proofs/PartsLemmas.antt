@@ -21,9 +21,10 @@ use Rattle.sn_outline.specs.declared.limits.TheConstants.{MOST_STEPS}
 use Rattle.sn_feature.specs.declared.fault.StepFault.TheVariants as step
 use Rattle.sn_flow.specs.declared.fault.JobFault.{JobFault}
 use Rattle.sn_flow.specs.declared.fault.JobFault.TheVariants as fault
-use Rattle.sn_flow.specs.Faults.{of_step, ◌or◌}
+use Rattle.sn_flow.specs.Faults.{of_step, ◌failing_as◌}
 use Rattle.sn_flow.specs.JobOf.{all_parts}
-use Rattle.sn_flow.specs.PartsRule.{IsSamePlace, KeepPartsRule, AreSteps}
+use Rattle.sn_feature.specs.StepLaws.{IsSamePlace}
+use Rattle.sn_flow.specs.PartsRule.{KeepPartsRule, AreSteps}
 
 -- What an Ok step is.
 
@@ -121,7 +122,7 @@ pub record AreFirst (r : Result StepParts StepFault) (s : Result (List StepParts
   pub all : parts ≡ part ∷ rest
 
 pub joined : Result StepParts StepFault → Result (List StepParts) JobFault → Result (List StepParts) JobFault
-joined r s = (r or of_step) >>= λ part. s >>= λ parts. Ok (part ∷ parts)
+joined r s = (r failing_as of_step) >>= λ part. s >>= λ parts. Ok (part ∷ parts)
 
 taken_apart : (r : Result StepParts StepFault) (s : Result (List StepParts) JobFault) (parts : List StepParts) → joined r s ≡ Ok parts → AreFirst r s parts
 unfolding joined

@@ -10,8 +10,9 @@ use Rattle.sn_geom.specs.declared.units.Pt3.{Pt3}
 use Rattle.sn_outline.specs.JobRule.{IsProper, AreNumbered, HaveOneBody, HaveOneFeature, IsSameFeature, IsSecurityHeight, IsJob, KeepRule}
 use Rattle.sn_words.specs.Options.{IsBox, IsPitch as WordPitch}
 use Rattle.sn_feature.specs.declared.parts.StepParts.{StepParts}
-use Rattle.sn_feature.specs.Step.{AreProper}
-use Rattle.sn_flow.specs.PartsRule.{IsSamePlace, KeepPartsRule}
+use Rattle.sn_feature.specs.StepRule.{AreProper}
+use Rattle.sn_feature.specs.StepLaws.{IsSamePlace}
+use Rattle.sn_flow.specs.PartsRule.{KeepPartsRule}
 use Rattle.sn_flow.specs.Steps.{tools_of, least_diameter, corner_among, step_among}
 use Rattle.sn_flow.specs.Tools.{number_in}
 use Rattle.sn_flow.proofs.ToolLemmas.{numbers_filled, numbers_differ}

@@ -21,8 +21,8 @@ of_step (step.WrongTool ws) = fault.WrongTool ws
 of_step (step.ShortTool ws) = fault.ShortTool ws
 of_step step.Memory = fault.Memory
 
--- the value, or the fault as one of the job
-infixl 20 ◌or◌
-abbrev pub ◌or◌ : {A E : Type 0} → Result A E → (E → JobFault) → Result A JobFault
-(Ok x) or f = Ok x
-(Err e) or f = Err (f e)
+-- the value, or the fault as this fault of the job
+infixl 20 ◌failing_as◌
+abbrev pub ◌failing_as◌ : {A E : Type 0} → Result A E → (E → JobFault) → Result A JobFault
+(Ok x) failing_as f = Ok x
+(Err e) failing_as f = Err (f e)

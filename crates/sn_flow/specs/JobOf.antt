@@ -11,14 +11,14 @@ use Rattle.sn_feature.specs.Refusal.{◌>>=◌}
 use Rattle.sn_feature.specs.Step.{step_of}
 use Rattle.sn_flow.specs.declared.fault.JobFault.{JobFault}
 use Rattle.sn_flow.specs.declared.fault.JobFault.TheVariants.{Frame, RawUnknown, SecLow}
-use Rattle.sn_flow.specs.Faults.{of_walk, of_step, ◌or◌}
+use Rattle.sn_flow.specs.Faults.{of_walk, of_step, ◌failing_as◌}
 use Rattle.sn_flow.specs.Setup.{workpiece_frame, raw_block, block_box, security_height}
 use Rattle.sn_flow.specs.Steps.{tools_of, step_among}
 
 -- the box of the BLOCK, if there is one
 abbrev pub box_of_block : ModelContent → Transform → Option ℕ → Result RawBox JobFault
 box_of_block m frame None = Err RawUnknown
-box_of_block m frame (Some block) = block_box m frame block or Frame
+box_of_block m frame (Some block) = block_box m frame block failing_as Frame
 
 -- the raw box that is given, or else that of the BLOCK
 abbrev pub raw_box : ModelContent → Option RawBox → Transform → Result RawBox JobFault
@@ -33,7 +33,7 @@ not_below raw_top z = if int_lt z raw_top then Err SecLow else Ok z
 abbrev pub all_parts : ModelContent → Transform → ℤ → List ℕ → Result (List StepParts) JobFault
 all_parts m frame raw_top [] = Ok []
 all_parts m frame raw_top (ws ∷ steps) = do
-  part ← step_of m frame raw_top ws or of_step
+  part ← step_of m frame raw_top ws failing_as of_step
   parts ← all_parts m frame raw_top steps
   Ok (part ∷ parts)
 
@@ -44,8 +44,8 @@ job_with o raw sec parts =
 -- The walk first; then the workpiece's frame, the raw box and the security height; then the steps in order.
 abbrev pub job_of : ModelContent → Options → Result Job JobFault
 job_of m o = do
-  steps ← executed_of m o.sets or of_walk
-  frame ← workpiece_frame m or Frame
+  steps ← executed_of m o.sets failing_as of_walk
+  frame ← workpiece_frame m failing_as Frame
   raw ← raw_box m o.raw frame
   sec ← not_below raw.high.z (security_height m steps raw.high.z)
   parts ← all_parts m frame raw.high.z steps

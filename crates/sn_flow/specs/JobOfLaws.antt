@@ -68,6 +68,11 @@ ElseTheJob =
 abbrev pub StepsAreExecuted : Type 0
 StepsAreExecuted = (m : ModelContent) (o : Options) (job : Job) → job_of m o ≡ Ok job → executed_of m o.sets ≡ Ok (map (λ s. s.ws) job.steps)
 
+-- a job, or why there is none, depends on the model, the pitch, the raw box and the values alone
+abbrev pub SameOptionsSameJob : Type 0
+SameOptionsSameJob =
+    (m : ModelContent) (o p : Options) → o.pitch ≡ p.pitch → o.raw ≡ p.raw → o.sets ≡ p.sets → job_of m o ≡ job_of m p
+
 -- a raw box that is given is that of the job
 abbrev pub GivenBoxIsUsed : Type 0
 GivenBoxIsUsed =

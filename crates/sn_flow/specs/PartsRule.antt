@@ -5,16 +5,9 @@ use Rattle.sn_model.specs.ModelContent.{ModelContent}
 use Rattle.sn_frame.specs.Frame.{Transform}
 use Rattle.sn_outline.specs.declared.limits.TheConstants.{MOST_STEPS}
 use Rattle.sn_feature.specs.declared.parts.StepParts.{StepParts}
-use Rattle.sn_feature.specs.Step.{AreProper, HasCorner}
+use Rattle.sn_feature.specs.StepRule.{AreProper, HasCorner}
+use Rattle.sn_feature.specs.StepLaws.{IsSamePlace}
 use Rattle.sn_flow.specs.JobOf.{all_parts}
-
--- two parts are of one feature
-pub record IsSamePlace (p q : StepParts) : Type 0 where
-  pub outline : p.outline ≡ q.outline
-  pub top : p.top ≡ q.top
-  pub floor : p.floor ≡ q.floor
-  pub bottom : p.bottom ≡ q.bottom
-  pub corner : p.corner ≡ q.corner
 
 pub record KeepPartsRule (parts : List StepParts) : Type 0 where
   pub few : length parts ≤ MOST_STEPS

@@ -36,13 +36,14 @@ pub enum JobFault {
     /// A feature that has its floor above its top.
     #[error("feature {0} has its floor above its top")]
     Depth(u32),
-    /// A feature without an outline that encloses something.
+    /// A feature with a bad outline: a size of it is 0, its path lies along Z, a polygon has fewer than 3 corners or a trail
+    /// fewer than 2 points, or its polyline lists more than 1,000.
     #[error("feature {0} has a bad outline")]
     BadOutline(u32),
     /// The window of the grid leaves the range of coordinates or has too many nodes. It comes from the grid, not from the part.
     #[error("grid too big")]
     GridTooBig,
-    /// A feature that the grid does not see. It comes from the grid, not from the part.
+    /// A feature without a required node. It comes from the grid, not from the part.
     #[error("feature {0} too small for the grid")]
     TooSmall(u32),
     #[error("out of memory")]

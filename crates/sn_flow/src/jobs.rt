@@ -26,7 +26,7 @@ use sn_words::{Opts, RawBox};
 use std::alloc::{AllocError, Global};
 
 /// The job of a sound model under the words of a command: what the executed steps of the main workplan cut, in the frame of
-/// the setup. All lengths are micrometres.
+/// the setup. All lengths are tenths of a micrometre.
 ///
 /// It is refused with the first fault in this order: those of the walk; that of the workpiece's placement; those of the raw
 /// box; a security height below the raw top; and for each executed step in order the placements, points and heights that are

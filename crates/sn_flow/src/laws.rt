@@ -1,5 +1,5 @@
 //! Laws of the definitions of jobs. Each function's contract states laws, and the function does nothing.
-ghost use Rattle.sn_flow.specs.JobOfLaws.{WalkFirst, WorkpieceSecond, RawBoxThird, SecurityFourth, StepsLast, ElseTheJob, StepsAreExecuted, GivenBoxIsUsed, NoOtherFault};
+ghost use Rattle.sn_flow.specs.JobOfLaws.{WalkFirst, WorkpieceSecond, RawBoxThird, SecurityFourth, StepsLast, ElseTheJob, StepsAreExecuted, GivenBoxIsUsed, NoOtherFault, SameOptionsSameJob};
 ghost use Rattle.sn_flow.specs.PartsRule.{PartsKeepRule};
 ghost use Rattle.sn_flow.specs.RuleLaws.{StepsKeepRule};
 ghost use Rattle.sn_flow.specs.SetupLaws.{FirstNamingTells, UnnamedStandsAtOrigin, BoundedByBlock, RawpieceFirst, OwnBlockElse, BlockInBox, GreatestOrRawTop};
@@ -46,6 +46,11 @@ pub fn jobs()
 {
     outcome_tells();
 }
+
+/// Which options a job depends on.
+pub fn same_options()
+    ensures { SameOptionsSameJob }
+{}
 
 /// The steps that are made of parts keep the rule of jobs.
 pub(crate) fn steps_keep_rule()

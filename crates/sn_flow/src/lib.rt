@@ -12,5 +12,3 @@ mod steps;
 
 pub use fault::JobFault;
 pub use jobs::job;
-pub use sn_feature::read_placement;
-pub use sn_words::{Assign, Command, Opts, RawBox, Words, values};

@@ -5,7 +5,8 @@ ghost use Rattle.sn_entity.specs.declared.row.Group.TheVariants.{One as OneRow};
 ghost use Rattle.sn_entity.specs.declared.row.RowId.TheVariants.{MachiningWorkingstep};
 ghost use Rattle.sn_outline.specs.declared.limits.TheConstants.{MOST_STEPS};
 ghost use Rattle.sn_refs.specs.Target.{IsTarget};
-ghost use Rattle.sn_feature.specs.Step.{step_of, AreProper, HasCorner};
+ghost use Rattle.sn_feature.specs.Step.{step_of};
+ghost use Rattle.sn_feature.specs.StepRule.{AreProper, HasCorner};
 ghost use Rattle.sn_flow.specs.JobOf.{all_parts as parts_of_all};
 ghost use Rattle.sn_flow.specs.PartsRule.{KeepPartsRule};
 

@@ -28,7 +28,7 @@ pub(crate) fn workpiece_frame(c: &Checked) -> Result<Frame, FrameFault>
     }
 }
 
-/// The raw box: the one that is given, or else that of the BLOCK. All lengths are micrometres.
+/// The raw box: the one that is given, or else that of the BLOCK. All lengths are tenths of a micrometre.
 pub(crate) fn raw_box(
     c: &Checked,
     raw: Option<RawBox>,
@@ -64,8 +64,8 @@ fn box_at(frame: &Frame, placement: u32, far: &Pt3) -> Result<RawBox, FrameFault
     ensures value { result ≡ box_in frame.now placement far.now }
     ensures corners { IfOk result IsBox }
 {
+    frame.rule();
     let corner = frame.apply(far, placement)?;
-    let _upright = frame.is_upright();
     Ok(box_of_corners(&frame.origin(), &corner))
 }
 

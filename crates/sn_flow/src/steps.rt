@@ -62,7 +62,7 @@ fn corners_of(alloc: Global, parts: &[StepParts]) -> Result<Vec<u32>, AllocError
     Ok(corners)
 }
 
-/// The least tool diameter among the steps of a feature, in micrometres.
+/// The least tool diameter among the steps of a feature, in tenths of a micrometre.
 fn least_diameter(parts: &[StepParts], feature: u32) -> u32
     ensures { result ≡ least_among parts.now feature }
 {

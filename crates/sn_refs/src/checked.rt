@@ -110,10 +110,11 @@ impl Checked {
         }
     }
 
-    /// The number at a place, in the unit of its kind, where the row wants one or none.
+    /// The number that is given at a place, in the unit of its kind. One is given only where the row reads a number.
     pub fn maybe_num(&self, n: u32, k: usize) -> Option<i32>
         requires reached { IsReached self.now n }
         ensures number { result ≡ num_at (values_of n self.now) k }
+        ensures kind { IfSome result (λ z. IsTrue (may_be is_number (read_at (row_of_number n self.now) k))) }
         ensures limits { IfSome result (IsWithinRead (read_at (row_of_number n self.now) k)) }
     {
         self.fields(n).num(k)

@@ -20,7 +20,8 @@ use Rattle.sn_refs.specs.Target.{values_from, values_of, IsTarget, NamedAreTarge
 use Rattle.sn_walk.specs.declared.node.Node.{Node}
 use Rattle.sn_walk.specs.declared.node.Node.TheVariants.{Sequence, Choice, AllOf, AnyOf, OneOf, Opposite, Compared}
 use Rattle.sn_walk.specs.Node.{named_in, node_by, node_from, node_of, listed}
-use Rattle.sn_walk.specs.Pending.{is_condition, Leads, IsLed, InstancesLead}
+use Rattle.sn_walk.specs.NodeLaws.{is_executable, is_condition, is_value, RowsHaveNodes}
+use Rattle.sn_walk.specs.Pending.{Leads, IsLed, InstancesLead}
 use Rattle.sn_walk.specs.Walk.{chosen, followers}
 
 -- the laws of the crates below
@@ -58,6 +59,15 @@ cond_kind row values h = among (λ id. is_condition (node_by id values) ≡ true
 val_kind : AreOfKind Val false
 unfolding AreOfKind
 val_kind row values h = among (λ id. is_condition (node_by id values) ≡ false) (rows_of Val) (refl, (refl, tt)) row h
+
+-- each row of these groups has a node of its kind
+pub rows_have_nodes : RowsHaveNodes
+unfolding AreOfKind
+rows_have_nodes = record {
+  executables = λ row values h. among (λ id. is_executable (node_by id values) ≡ true) (rows_of Exec) (refl, (refl, (refl, tt))) row h;
+  conditions = λ row values h. cond_kind row values h;
+  values = λ row values h. among (λ id. is_value (node_by id values) ≡ true) (rows_of Val) (refl, (refl, tt)) row h;
+}
 
 target_kind : (m : ModelContent) (group : Group) (b : Bool) → AreOfKind group b → (k : ℕ) → IsTarget m group k → is_condition (node_of m k) ≡ b
 unfolding AreOfKind

@@ -14,7 +14,7 @@ use Rattle.sn_walk.specs.declared.node.Node.TheVariants.{Sequence, Step, Variabl
 use Rattle.sn_walk.specs.Condition.{value_of}
 use Rattle.sn_walk.specs.Node.{node_of, main_setup, setup_of}
 use Rattle.sn_walk.specs.Walk.{is_step, is_step_node, is_other_setup, fault_by, fault_of, unless, outcome_from, visits_of, executed_of}
-use Rattle.sn_walk.specs.WalkLaws.{IsTooMuch, NamesSecondSetup, HasNoValue, FaultsTell, steps_in, fault_behind, AreFaultless, EndsWith, OutcomeTells, WalkIsShort}
+use Rattle.sn_walk.specs.WalkLaws.{IsTooMuch, NamesSecondSetup, HasNoValue, FaultsTell, steps_in, fault_behind, AreFaultless, EndsWith, OutcomeTells, WalkIsShort, VisitsAreBounded, LimitsTell}
 
 module _ (m : ModelContent) (sets : List Assign) where
   -- one visit more
@@ -321,3 +321,14 @@ outcome_tells = record { steps = λ m sets steps. tells_steps m sets steps; faul
 
 pub walk_is_short : WalkIsShort
 walk_is_short m sets = (short_steps m sets, never_memory m sets)
+
+pub visits_are_bounded : VisitsAreBounded
+visits_are_bounded m sets before n made = (passes_short m sets [] before (each_is m sets before made.faultless) (omega arith) (omega arith)).0
+
+pub limits_tell : LimitsTell
+limits_tell = record {
+  last_visit = λ m sets steps n. refl;
+  visit_too_many = λ m sets steps n. refl;
+  last_step = λ m sets n. refl;
+  step_too_many = λ m sets n. refl;
+}

@@ -17,7 +17,8 @@ use Rattle.sn_walk.specs.declared.walk.Item.{Item}
 use Rattle.sn_walk.specs.declared.walk.Item.TheVariants.{Visit, Branch, Combine, Flip}
 use Rattle.sn_walk.specs.Condition.{value_of, holds}
 use Rattle.sn_walk.specs.Node.{node_of, listed}
-use Rattle.sn_walk.specs.Pending.{Leads, IsLed, InstancesLead, is_condition, joined, given, given_if, walk_if, rest, gated, items_of, begun, IsReachedItem, AreReached, coming, GoesOn, IsAt}
+use Rattle.sn_walk.specs.NodeLaws.{is_condition}
+use Rattle.sn_walk.specs.Pending.{Leads, IsLed, InstancesLead, joined, given, given_if, walk_if, rest, gated, items_of, begun, IsReachedItem, AreReached, coming, GoesOn, IsAt}
 use Rattle.sn_walk.specs.Walk.{chosen, followers, truth_of, walk_from, is_step, fault_of, unless, outcome_from, executed_of}
 use Rattle.sn_walk.specs.WalkLaws.{TruthGoesByOperands, WalkGoesOn}
 

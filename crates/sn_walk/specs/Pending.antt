@@ -14,16 +14,9 @@ use Rattle.sn_walk.specs.declared.node.Node.{Node}
 use Rattle.sn_walk.specs.declared.node.Node.TheVariants.{Sequence, Choice, AllOf, AnyOf, OneOf, Opposite, Compared}
 use Rattle.sn_walk.specs.Condition.{compares_given, differ}
 use Rattle.sn_walk.specs.Node.{node_of, listed}
+use Rattle.sn_walk.specs.NodeLaws.{is_condition}
 use Rattle.sn_walk.specs.declared.limits.TheConstants.{MOST_VISITS}
 use Rattle.sn_walk.specs.Walk.{chosen, truth_of, walk_from, outcome_from, executed_of}
-
-abbrev pub is_condition : Node → Bool
-is_condition AllOf = true
-is_condition AnyOf = true
-is_condition (OneOf a b) = true
-is_condition (Opposite a) = true
-is_condition (Compared comparison a b) = true
-is_condition _ = false
 
 -- The truths are kept with the latest in front. An empty list reads as false.
 

@@ -14,9 +14,9 @@ use Rattle.sn_walk.specs.declared.fault.WalkFault.{WalkFault}
 use Rattle.sn_walk.specs.declared.fault.WalkFault.TheVariants.{Unset, TooManySteps, SecondSetup, Memory}
 use Rattle.sn_walk.specs.declared.limits.TheConstants.{MOST_VISITS}
 use Rattle.sn_walk.specs.Condition.{value_of, holds}
-use Rattle.sn_walk.specs.declared.node.Node.TheVariants.{Sequence, Variable}
+use Rattle.sn_walk.specs.declared.node.Node.TheVariants.{Sequence, Step, Variable}
 use Rattle.sn_walk.specs.Node.{node_of, listed, setup_of, main_setup}
-use Rattle.sn_walk.specs.Walk.{followers, walk_from, truth_of, visits_of, is_step, fault_of, executed_of}
+use Rattle.sn_walk.specs.Walk.{followers, walk_from, truth_of, visits_of, is_step, fault_by, fault_of, executed_of}
 
 -- whether a reached condition holds is told by its operands alone
 abbrev pub TruthGoesByOperands : Type 0
@@ -86,3 +86,21 @@ abbrev pub ExecutedAreSteps : Type 0
 ExecutedAreSteps =
     (m : ModelContent) → IsModel m → IsSound m
     → (sets : List Assign) (steps : List ℕ) (n : ℕ) → executed_of m sets ≡ Ok steps → Contains steps n → IsTarget m (OneRow MachiningWorkingstep) n
+
+-- the walk comes to the visit of n behind these visits, none of which has a fault
+pub record IsMade (m : ModelContent) (sets : List Assign) (before : List ℕ) (n : ℕ) : Type 0 where
+  pub after : List ℕ
+  pub all : visits_of m sets ≡ before ++ n ∷ after
+  pub faultless : AreFaultless m sets before
+
+-- no visit is made behind more than the most visits: whatever the model, so many are made and one more that is refused
+abbrev pub VisitsAreBounded : Type 0
+VisitsAreBounded = (m : ModelContent) (sets : List Assign) (before : List ℕ) (n : ℕ) → IsMade m sets before n → length before ≤ MOST_VISITS
+
+-- the 10,000th visit is judged by what it shows, and the next one is one too many; the 1,000th step is executed, and the next
+-- one is one too many
+pub record LimitsTell : Type 0 where
+  pub last_visit : (m : ModelContent) (sets : List Assign) (steps n : ℕ) → fault_of m sets 9999 steps n ≡ fault_by m sets steps n (node_of m n)
+  pub visit_too_many : (m : ModelContent) (sets : List Assign) (steps n : ℕ) → fault_of m sets 10000 steps n ≡ Some TooManySteps
+  pub last_step : (m : ModelContent) (sets : List Assign) (n : ℕ) → fault_by m sets 999 n Step ≡ None
+  pub step_too_many : (m : ModelContent) (sets : List Assign) (n : ℕ) → fault_by m sets 1000 n Step ≡ Some TooManySteps

@@ -1,7 +1,8 @@
 //! Laws of conditions and of the walk. Each function's contract states a law, and the function does nothing.
 ghost use Rattle.sn_walk.specs.ConditionLaws.{AssignmentsTell, ComparisonsTell, ConditionsTell};
+ghost use Rattle.sn_walk.specs.NodeLaws.{RowsHaveNodes};
 ghost use Rattle.sn_walk.specs.Pending.{InstancesLead};
-ghost use Rattle.sn_walk.specs.WalkLaws.{ExecutedAreSteps, FaultsTell, OutcomeTells, TruthGoesByOperands, WalkGoesOn, WalkIsShort};
+ghost use Rattle.sn_walk.specs.WalkLaws.{ExecutedAreSteps, FaultsTell, LimitsTell, OutcomeTells, TruthGoesByOperands, VisitsAreBounded, WalkGoesOn, WalkIsShort};
 
 use sn_entity::given_where_wanted;
 use sn_model::project_has_row;
@@ -12,6 +13,11 @@ pub fn conditions_tell()
     ensures comparisons { ComparisonsTell }
     ensures conditions { ConditionsTell }
     ensures assignments { AssignmentsTell }
+{}
+
+/// Each row of the groups that a walk comes to has a node.
+pub fn rows_have_nodes()
+    ensures { RowsHaveNodes }
 {}
 
 /// What a reached instance names, by what it is to the walk.
@@ -39,6 +45,12 @@ pub fn outcome_tells()
     ensures tells { OutcomeTells }
     ensures faults { FaultsTell }
     ensures short { WalkIsShort }
+{}
+
+/// How many visits are made, and which visit and which step are one too many.
+pub fn limits_tell()
+    ensures visits { VisitsAreBounded }
+    ensures borders { LimitsTell }
 {}
 
 /// What is executed is a machining workingstep to which the project leads.

@@ -1,3 +1,4 @@
+use Rattle.sn_feature.proofs.LongPolylines.{long_polyline_is_bad}
 use Rattle.sn_feature.proofs.OutlineProofs.{sides_are_halved, width_of_five, face_lies_beside_path, path_goes_in_direction, repeated_last_is_dropped}
 use Rattle.sn_feature.proofs.laws.outlines.Goals as goal
 
@@ -15,3 +16,6 @@ returns-clause-paths c = path_goes_in_direction
 
 pub returns-clause-polygons : goal.returns-clause-polygons
 returns-clause-polygons c = repeated_last_is_dropped
+
+pub returns-clause-long : goal.returns-clause-long
+returns-clause-long c = long_polyline_is_bad

@@ -1,7 +1,7 @@
 use Rattle.std.proofs.Common.{◌≡◌, ◌∷◌, [], ◌++◌, List, Ok, sym, subst, ap, ◌∙◌, arith}
 use Rattle.std.specs.List.{Contains}
 use Rattle.sn_feature.specs.declared.parts.StepParts.{StepParts}
-use Rattle.sn_feature.specs.Step.{AreProper, HasCorner}
+use Rattle.sn_feature.specs.StepRule.{AreProper, HasCorner}
 use Rattle.sn_flow.proofs.PartsLemmas.{refused_part, part_more, each_more}
 use Rattle.sn_flow.proofs.parts.all_parts.Goals as goal
 

@@ -1,7 +1,7 @@
 use Rattle.std.proofs.Common.{◌≡◌, take, Ok}
 use Rattle.std.specs.List.{Contains}
 use Rattle.sn_feature.specs.declared.parts.StepParts.{StepParts}
-use Rattle.sn_feature.specs.Step.{AreProper, HasCorner}
+use Rattle.sn_feature.specs.StepRule.{AreProper, HasCorner}
 use Rattle.sn_flow.specs.JobOf.{all_parts}
 use Rattle.sn_flow.proofs.parts.all_parts.Given as goal
 

@@ -7,4 +7,4 @@ use Rattle.sn_flow.proofs.raw.box_at.Goals as goal
 pub returns-clause-corners : goal.returns-clause-corners
 returns-clause-corners c =
     let raw = c.box_of_corners.ensures ∙ ap (λ (p : Pt3). box_of_corners p c.in_ok-corner.corner) c.origin.ensures in
-    sides_of_box c.args.frame.now c.args.placement c.args.far.now c.in_ok-corner.corner c.box_of_corners.result c.in_ok-corner.ensures raw c.is_upright-upright.ensures.rotation c.requires
+    sides_of_box c.args.frame.now c.args.placement c.args.far.now c.in_ok-corner.corner c.box_of_corners.result c.in_ok-corner.ensures raw c.rule.ensures c.requires
