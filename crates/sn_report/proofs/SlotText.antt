@@ -11,7 +11,7 @@ use Rattle.sn_p21.specs.declared.file.Param.TheVariants as param
 use Rattle.sn_p21.specs.Word.{Word, mark, keyword}
 use Rattle.sn_p21.specs.Canonical.{word_text, words_text}
 use Rattle.sn_p21.specs.Grammar.{param_words, list_words, rest_of_list, instance_words, parts_words}
-use Rattle.sn_p21.specs.Written.{rows_words}
+use Rattle.sn_p21.specs.Grammar.{rows_words}
 use Rattle.sn_report.specs.Generated.{to, none, simple}
 use Rattle.sn_report.proofs.Layers.{real_word, text_word, ref_word, absent_word, list_has_words}
 

@@ -3,7 +3,7 @@ use Rattle.std.specs.Prelude.{codes}
 use Rattle.std.specs.Fmt.{digits}
 use Rattle.sn_p21.specs.Canonical.{words_text}
 use Rattle.sn_p21.specs.Grammar.{header_words, opening_words, middle_words, closing_words}
-use Rattle.sn_p21.specs.Written.{rows_words}
+use Rattle.sn_p21.specs.Grammar.{rows_words}
 use Rattle.sn_report.specs.declared.feature.Feature.TheVariants.{Slot}
 use Rattle.sn_report.specs.Generated.{placement, instances_of, header, common_instances, steps_from}
 use Rattle.sn_report.proofs.SlotText.{HasLine, HaveLines, of_real, of_text, of_ref, of_none, of_list, of_simple, lines_written, behind}
