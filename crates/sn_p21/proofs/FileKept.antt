@@ -158,7 +158,7 @@ module _ (limit : ℕ) where
       subst (Kept limit t) (append_assoc us (w ∷ []) ws) (run_kept some ws (us ++ w ∷ []) first.0 t spelled.1 more first.2)
 
   pub start_kept : 0 < limit → (ws : List Word) (s : Reader) → AllByRecursion IsSpelled ws → run limit start ws ≡ Ok s → Kept limit s ws
-  start_kept some ws s spelled h = run_kept some ws [] start s spelled (((refl, refl, refl), refl), refl) h
+  start_kept some ws s spelled h = run_kept some ws [] start s spelled (((refl, refl, refl, refl), refl), refl) h
 
   -- what is read whole is a file, and its words are derived from it
   pub whole_is_file : 0 < limit → (ws : List Word) (s : Reader) → AllByRecursion IsSpelled ws → run limit start ws ≡ Ok s → s.place ≡ Done → IsFileWithin limit (content s) × AreFileWords (content s) ws

@@ -78,17 +78,17 @@ data_push (j ∷ is) i rows ws all one =
     (all.0, all.1 ++ ws, all.2, data_push is i all.1 ws all.3 one, ap (λ xs. xs ++ ws) all.4 ∙ append_assoc all.0 all.1 ws)
 
 pub sections_push : (ss : List Section) (s : Section) (is own : List Instance) (ws rows : List Word) → counted ss ≡ length is → s.count ≡ length own → AreSectionsWords ss is ws → AreDataWords own rows → AreSectionsWords (ss ++ s ∷ []) (is ++ own) (ws ++ section_words s rows)
-sections_push [] s [] own ws rows counts count all data =
-    (rows, [], subst (λ js. AreDataWords js rows) (sym (take_all s.count own (omega arith))) data, refl, ap (λ xs. xs ++ section_words s rows) all ∙ sym (append-nil (section_words s rows)))
-sections_push [] s (i ∷ is) own ws rows counts count all data = absurd (let e : 0 ≡ length (i ∷ is) = counts in omega arith)
-sections_push (t ∷ ss) s is own ws rows counts count all data =
+sections_push [] s [] own ws rows counts count all derived =
+    (rows, [], subst (λ js. AreDataWords js rows) (sym (take_all s.count own (omega arith))) derived, refl, ap (λ xs. xs ++ section_words s rows) all ∙ sym (append-nil (section_words s rows)))
+sections_push [] s (i ∷ is) own ws rows counts count all derived = absurd (let e : 0 ≡ length (i ∷ is) = counts in omega arith)
+sections_push (t ∷ ss) s is own ws rows counts count all derived =
     let sum = sum_by-cons (λ (u : Section). u.count) t ss in
     let within : t.count ≤ length is = omega arith in
     let left : counted ss ≡ length (drop t.count is) = omega (arith, length-drop t.count is) in (
       all.0,
       all.1 ++ section_words s rows,
       subst (λ js. AreDataWords js all.0) (sym (take-append-le t.count is own within)) all.2,
-      subst (λ js. AreSectionsWords (ss ++ s ∷ []) js (all.1 ++ section_words s rows)) (sym (drop-append-le t.count is own within)) (sections_push ss s (drop t.count is) own all.1 rows left count all.3 data),
+      subst (λ js. AreSectionsWords (ss ++ s ∷ []) js (all.1 ++ section_words s rows)) (sym (drop-append-le t.count is own within)) (sections_push ss s (drop t.count is) own all.1 rows left count all.3 derived),
       ap (λ xs. xs ++ section_words s rows) all.4 ∙ append_assoc (section_words t all.0) all.1 (section_words s rows),
     )
 

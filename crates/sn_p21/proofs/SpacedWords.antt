@@ -139,7 +139,7 @@ file_end_spaced rest all = (tt, inr tt, (tt, inl tt, all))
 
 data_spaced : (params : Option (List Param)) → EndSpaced (data_words params)
 data_spaced None rest all = (tt, inr tt, (tt, inl tt, all))
-data_spaced (Some params) = header_entity_spaced (data_entity params)
+data_spaced (Some params) rest all = header_entity_spaced (data_entity params) rest all
 
 section_spaced : (s : Section) (is : List Instance) → EndSpaced (section_words s (rows_words is))
 section_spaced s is =
@@ -148,7 +148,7 @@ section_spaced s is =
 
 sections_spaced : (ss : List Section) (is : List Instance) → EndSpaced (plainest_sections ss is)
 sections_spaced [] is rest all = all
-sections_spaced (s ∷ ss) is = joined (section_words s (rows_words (take s.count is))) (plainest_sections ss (drop s.count is)) (section_spaced s (take s.count is)) (sections_spaced ss (drop s.count is))
+sections_spaced (s ∷ ss) is rest all = joined (section_words s (rows_words (take s.count is))) (plainest_sections ss (drop s.count is)) (section_spaced s (take s.count is)) (sections_spaced ss (drop s.count is)) rest all
 
 pub file_spaced : (f : Content) → AreSpaced (plainest_words f)
 file_spaced f =

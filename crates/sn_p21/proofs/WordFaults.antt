@@ -141,7 +141,8 @@ section_case t s v = plain (plain_either (is_keyword_named t v (codes "DATA")) _
 
 next_section_case : (t : Token) (s : Reader) (v : List ℕ) → CaseAt NextSection s t v
 next_section_case FileEnd s v = plain tt
-next_section_case t s v = plain (plain_either (is_keyword_named t v (codes "DATA")) _)
+next_section_case Keyword s v = plain (plain_either (is_keyword_named Keyword v (codes "DATA")) _)
+next_section_case _ s v = plain tt
 
 section_params_case : (t : Token) (s : Reader) (v : List ℕ) → CaseAt SectionParams s t v
 section_params_case Semicolon s v = plain tt
