@@ -181,9 +181,12 @@ module _ (limit : ℕ) where
   DataIsRead h ss q c is m o ws rest js = (number : ℕ) × (owner : Owner) × (run limit (base InstanceAt h ss q c is m [] o) (ws ++ rest) ≡ run limit (base InstanceAt h ss q (c + length js) (is ++ js) number [] owner) rest)
 
   pub data_is_read : (js : List Instance) (m : ℕ) (h : List Entity) (ss : List Section) (q : Option (List Param)) (c : ℕ) (is : List Instance) (o : Owner) (ws rest : List Word) → AreDataWords js ws → AllByRecursion HasPart js → AllFit js → NumbersDiffer (is ++ js) → DataIsRead h ss q c is m o ws rest js
-  data_is_read [] m h ss q c is o ws rest words some fits differ =
-      (m, o, ap (λ xs. run limit (base InstanceAt h ss q c is m [] o) (xs ++ rest)) words ∙ ap (λ js. run limit (base InstanceAt h ss q c js m [] o) rest) (sym (append-nil is))
-          ∙ ap (λ k. run limit (base InstanceAt h ss q k (is ++ []) m [] o) rest) (let z : c ≡ c + length {A = Instance} [] = omega arith in z))
+  data_is_read [] m h ss q c is o ws rest words some fits differ = (
+    m,
+    o,
+    ap (λ xs. run limit (base InstanceAt h ss q c is m [] o) (xs ++ rest)) words ∙ ap (λ js. run limit (base InstanceAt h ss q c js m [] o) rest) (sym (append-nil is))
+        ∙ ap (λ k. run limit (base InstanceAt h ss q k (is ++ []) m [] o) rest) (let z : c ≡ c + length {A = Instance} [] = omega arith in z),
+  )
   data_is_read (j ∷ js) m h ss q c is o ws rest words some fits differ =
       let new = has_number-false j.number is (new_number is j js differ) in
       let one = instance_is_read j m h ss q c is o words.0 (words.1 ++ rest) words.2 some.0 fits.0 new in

@@ -19,7 +19,7 @@ use Rattle.sn_p21.specs.declared.grammar.list.OpenList.{OpenList}
 use Rattle.sn_p21.specs.declared.grammar.reader.Reader.{Reader}
 use Rattle.sn_p21.specs.Numbers.{has_number, NumbersDiffer}
 use Rattle.sn_p21.specs.Word.{Word, Carries, mark, keyword}
-use Rattle.sn_p21.specs.Grammar.{param_words, list_words, entity_words, header_words, instance_words, AreInstanceWords, AreDataWords, AreSectionsWords, data_entity, data_entities, data_words, opening_words, section_end_words, counted}
+use Rattle.sn_p21.specs.Grammar.{param_words, list_words, entity_words, header_words, instance_words, AreInstanceWords, AreSectionsWords, data_entities, data_words, opening_words, section_end_words, counted}
 use Rattle.sn_p21.specs.Reader.{twice, deep, begins_section, counts_one, accepts, place_after, closes, closes_in, takes_entity, takes_param, list_param, param_of_list, list_with, empty_list, opens, first_place, names_header_entity, ends_header}
 use Rattle.sn_p21.proofs.NumberLemmas.{not_has_number, differ_push}
 use Rattle.sn_p21.proofs.ParamLayers.{words_list}

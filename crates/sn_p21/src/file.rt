@@ -1,6 +1,6 @@
 //! A file: its header, its sections, and its instances in their order.
 
-ghost use Rattle.std.specs.Prelude.{◌≡◌, OnOk};
+ghost use Rattle.std.specs.Prelude.{◌≡◌, IfOk};
 ghost use Rattle.sn_p21.specs.Grammar.{IsFile};
 ghost use Rattle.sn_p21.specs.OneSection.{in_one_section};
 
@@ -98,7 +98,7 @@ impl File {
         instances: Instances,
     ) -> Result<File, AllocError>
         requires { IsFile (in_one_section header instances) }
-        ensures { OnOk result (λ f. f ≡ in_one_section header instances) }
+        ensures { IfOk result (λ f. f ≡ in_one_section header instances) }
     {
         let Ok(count) = u32::try_from(instances.len()) else {
             return Err(AllocError);

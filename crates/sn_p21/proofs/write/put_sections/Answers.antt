@@ -1,4 +1,4 @@
-use Rattle.std.proofs.Common.{◌≡◌, ◌++◌, ◌+◌, ◌-◌, ◌≤◌, List, ℕ, length, take, drop, arith, sym, ap, ◌∙◌, append_assoc}
+use Rattle.std.proofs.Common.{◌++◌, ◌+◌, ◌-◌, List, ℕ, length, take, drop, arith, sym, ap, ◌∙◌, append_assoc}
 use Rattle.sn_p21.specs.Canonical.{words_text}
 use Rattle.sn_p21.specs.Grammar.{section_words, plainest_sections, rows_words}
 use Rattle.sn_p21.proofs.Texts.{section_at, texts_append}
