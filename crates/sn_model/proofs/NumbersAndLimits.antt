@@ -6,7 +6,8 @@ use Rattle.std.specs.List.{AllByRecursion}
 use Rattle.std.proofs.lemmas.Bool.Decides.{eqb_tells}
 use Rattle.sn_p21.specs.declared.file.Instance.{Instance}
 use Rattle.sn_p21.specs.Content.{Content}
-use Rattle.sn_p21.specs.Grammar.{IsFile, opening_words, middle_words, closing_words, header_words, instance_words, parts_words}
+use Rattle.sn_p21.specs.Grammar.{IsFile, instance_words, parts_words}
+use Rattle.sn_p21.specs.PartText.{InstancesAreSpelled}
 use Rattle.sn_p21.specs.Word.{Word, IsSpelled}
 use Rattle.sn_entity.specs.declared.row.Kind.{Kind}
 use Rattle.sn_entity.specs.declared.row.Kind.TheVariants.{L, L0, L1, Dia, Edge, Feed, Speed, N, P, V, T, Z, Z0, R, RL, B}
@@ -43,11 +44,8 @@ numbers_from (i ∷ is) h =
     (first.0.1.0.0.0, numbers_from is rest)
 
 -- the instances of a file have numbers
-pub file_numbers : (f : Content) → IsFile f → HaveNumbers f.instances
-file_numbers f file =
-    let rows = flat_map (λ i. instance_words i.number (parts_words i.parts)) f.instances in
-    let before = opening_words ++ flat_map header_words f.header ++ middle_words in
-    numbers_from f.instances (back_all IsSpelled before rows (front_all IsSpelled (before ++ rows) closing_words file.spelled))
+pub file_numbers : InstancesAreSpelled → (f : Content) → IsFile f → HaveNumbers f.instances
+file_numbers law f file = numbers_from f.instances (law f file)
 
 found_number : (is : List Instance) (kept : List (ℕ × Kept)) (n : ℕ) (k : Kept) → AreKept is kept → HaveNumbers is → kept_of n kept ≡ Some k → 0 < n
 found_number [] kept n k h numbers e = let none : None ≡ Some k = subst (λ (xs : List (ℕ × Kept)). kept_of n xs ≡ Some k) h e in absurd cc

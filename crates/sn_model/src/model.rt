@@ -9,7 +9,7 @@ use crate::fault::ModelFault;
 use crate::laws::one_model;
 use indexmap::IndexMap;
 use sn_entity::{EntFault, Fields, RowId, fields, row_of};
-use sn_p21::{File, Instance, Instances};
+use sn_p21::{File, Instance, Instances, instances_are_spelled};
 use std::alloc::{AllocError, Global};
 
 /// What is kept of an instance.
@@ -93,6 +93,7 @@ pub fn build(alloc: Global, f: &File) -> Result<Model, ModelFault>
     ensures only { (m : ModelContent) → IsModelOf f.now.instances m → MatchResult result (λ g. g ≡ m) (λ e. e ≡ ModelFault.Memory) }
     ensures fault { (why : ModelFault) → IsModelFault f.now.instances why → MatchResult result (λ m. ⊥) (λ e. (e ≡ why) ⊎ (e ≡ ModelFault.Memory)) }
 {
+    instances_are_spelled();
     one_model();
     let project = project_of(&f.instances)?;
     let kept = keep_all(alloc, f)?;

@@ -10,8 +10,8 @@ use Rattle.sn_p21.specs.declared.grammar.reader.Reader.{Reader}
 use Rattle.sn_p21.specs.FirstFault.{BeginWithin, Begin, within, typed}
 use Rattle.sn_p21.specs.Word.{Word, IsSpelled, keyword}
 use Rattle.sn_p21.specs.Reader.{unexpected, step, step_at, start}
-use Rattle.sn_p21.proofs.FilesRead.{file_is_read, front_all}
-use Rattle.sn_p21.proofs.FileKept.{content, join_all, start_kept, whole_is_file}
+use Rattle.sn_p21.proofs.FilesRead.{file_is_read, front_all, join_all}
+use Rattle.sn_p21.proofs.FileKept.{content, start_kept, whole_is_file}
 use Rattle.sn_p21.proofs.Kept.{KeptAt}
 use Rattle.sn_p21.proofs.KeptLemmas.{Gave, same_reader, no_reader}
 use Rattle.sn_p21.proofs.TwoLimits.{run_more, keyword_same}

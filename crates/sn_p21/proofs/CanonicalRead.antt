@@ -12,11 +12,11 @@ use Rattle.sn_lex.specs.declared.token.Span.{Span}
 use Rattle.sn_lex.specs.declared.token.Token.{Token}
 use Rattle.sn_lex.specs.declared.token.Token.TheVariants.{Semicolon}
 use Rattle.sn_p21.specs.declared.file.Instance.{Instance}
+use Rattle.sn_p21.specs.declared.file.Section.{Section}
 use Rattle.sn_p21.specs.Canonical.{token_text, separator_after, words_text, canonical_text}
-use Rattle.sn_p21.specs.Grammar.{AreDataWords, plainest_words}
+use Rattle.sn_p21.specs.Grammar.{AreDataWords, AreSectionsWords, rows_words, plainest_sections, plainest_words}
 use Rattle.sn_p21.specs.PartText.{ReadsCanonical}
 use Rattle.sn_p21.specs.Word.{Word, Carries, IsSpelled, IsNextWord, AreWordsBetween}
-use Rattle.sn_p21.specs.Written.{rows_words}
 use Rattle.sn_p21.proofs.SpacedWords.{BeginWithMark, AreSpaced, file_spaced}
 use Rattle.sn_p21.proofs.SpellingLemmas.{IsMark, mark_text, no_end, spelled_text}
 use Rattle.sn_p21.proofs.Texts.{row_words}
@@ -94,10 +94,14 @@ rows_are_data : (is : List Instance) → AreDataWords is (rows_words is)
 rows_are_data [] = refl
 rows_are_data (i ∷ is) = (row_words i, rows_words is, inl refl, rows_are_data is, refl)
 
+sections_derived : (ss : List Section) (is : List Instance) → AreSectionsWords ss is (plainest_sections ss is)
+sections_derived [] is = refl
+sections_derived (s ∷ ss) is = (rows_words (take s.count is), plainest_sections ss (drop s.count is), rows_are_data (take s.count is), sections_derived ss (drop s.count is), refl)
+
 pub canonical_is_read : ReadsWritten → ReadsCanonical
 canonical_is_read law f rule = record {
   ws = plainest_words f;
   words = words_read law (plainest_words f) (canonical_text f) [] [] 0 refl refl no_separators (file_spaced f) rule.spelled;
-  derived = (rows_words f.instances, rows_are_data f.instances, refl);
+  derived = (plainest_sections f.sections f.instances, sections_derived f.sections f.instances, refl);
   rule = rule;
 }

@@ -8,15 +8,16 @@ use Rattle.std.proofs.Common.{drop, Ok}
 use Rattle.sn_lex.specs.declared.token.Token.TheVariants.{Keyword}
 use Rattle.sn_p21.specs.declared.file.Entity.{Entity}
 use Rattle.sn_p21.specs.declared.file.Instance.{Instance}
+use Rattle.sn_p21.specs.declared.file.Section.{Section}
 use Rattle.sn_p21.specs.declared.grammar.place.Place.TheVariants.{Done}
 use Rattle.sn_p21.specs.declared.grammar.reader.Reader.{Reader}
 use Rattle.sn_p21.specs.declared.limits.TheConstants.{MAX_OPEN_LISTS}
 use Rattle.sn_p21.specs.Content.{Content}
 use Rattle.sn_p21.specs.Word.{Word, IsSpelled}
-use Rattle.sn_p21.specs.Grammar.{entity_words, enclosed_words, parts_words, instance_words, header_words, AreInstanceWords, AreDataWords, file_words, opening_words, middle_words, closing_words, AreFileWords, IsNestedWithin, IsWhole, header_names, IsFileWithin, IsFile}
+use Rattle.sn_p21.specs.Grammar.{entity_words, enclosed_words, parts_words, instance_words, header_words, AreInstanceWords, AreDataWords, AreSectionsWords, data_entities, data_words, section_words, rows_words, plainest_sections, file_words, opening_words, section_end_words, file_end_words, AreFileWords, IsNestedWithin, IsWhole, header_names, IsFileWithin, IsFile}
 use Rattle.sn_p21.specs.PartText.{IsPartText}
 use Rattle.sn_p21.specs.Reader.{step, ends_header, start}
-use Rattle.sn_p21.proofs.FilesRead.{Fits, HeaderFrom, AllFit, front_all, back_all, same_bytes}
+use Rattle.sn_p21.proofs.FilesRead.{Fits, HeaderFrom, AllFit, front_all, back_all, join_all, same_bytes}
 use Rattle.sn_p21.proofs.Kept.{Kept, KeptAt}
 use Rattle.sn_p21.proofs.KeptLemmas.{same_reader}
 use Rattle.sn_p21.proofs.Runs.{run, first_gave}
@@ -34,10 +35,6 @@ other_name k name e h n = let z : true ≡ false = sym (same_bytes name _ (sym e
 
 named : (k name : List ℕ) → bytes_eq k name ≡ true → k ≡ name
 named k name h = (bytes_eq-Decides k name).0 h
-
-pub join_all : {A : Type 0} (P : A → Type 0) (xs ys : List A) → AllByRecursion P xs → AllByRecursion P ys → AllByRecursion P (xs ++ ys)
-join_all P [] ys h k = k
-join_all P (x ∷ xs) ys h k = (h.0, join_all P xs ys h.1 k)
 
 each : {A : Type 0} (P Q : A → Type 0) (xs : List A) → ((x : A) → P x → Q x) → AllByRecursion P xs → AllByRecursion Q xs
 each P Q [] f h = tt
@@ -60,25 +57,36 @@ plain_instance i ws (inr e) h =
     let last = back_all IsSpelled (enclosed_words i.parts) _ all.1.1 in
     (all.0, (all.1.0, join_all IsSpelled (parts_words i.parts) _ (plain_parts i.parts enclosed) last))
 
-abbrev pub plain_rows : List Instance → List Word
-plain_rows is = flat_map (λ i. instance_words i.number (parts_words i.parts)) is
-
-plain_data : (is : List Instance) (ws : List Word) → AreDataWords is ws → AllByRecursion IsSpelled ws → AllByRecursion IsSpelled (plain_rows is)
+plain_data : (is : List Instance) (ws : List Word) → AreDataWords is ws → AllByRecursion IsSpelled ws → AllByRecursion IsSpelled (rows_words is)
 plain_data [] ws d h = tt
 plain_data (i ∷ is) ws d h =
     let all = subst (AllByRecursion IsSpelled) d.4 h in
-    join_all IsSpelled (instance_words i.number (parts_words i.parts)) (plain_rows is) (plain_instance i d.0 d.2 (front_all IsSpelled d.0 d.1 all)) (plain_data is d.1 d.3 (back_all IsSpelled d.0 d.1 all))
+    join_all IsSpelled (instance_words i.number (parts_words i.parts)) (rows_words is) (plain_instance i d.0 d.2 (front_all IsSpelled d.0 d.1 all)) (plain_data is d.1 d.3 (back_all IsSpelled d.0 d.1 all))
 
-plain_file : (h : List Entity) (is : List Instance) (rows : List Word) → AreDataWords is rows → AllByRecursion IsSpelled (file_words h rows) → AllByRecursion IsSpelled (file_words h (plain_rows is))
-plain_file h is rows d all =
-    let before = opening_words ++ flat_map header_words h ++ middle_words in
-    let front = front_all IsSpelled (before ++ rows) closing_words all in
-    join_all IsSpelled (before ++ plain_rows is) closing_words (join_all IsSpelled before (plain_rows is) (front_all IsSpelled before rows front) (plain_data is rows d (back_all IsSpelled before rows front))) (back_all IsSpelled (before ++ rows) closing_words all)
+plain_section : (s : Section) (is : List Instance) (own : List Word) → AreDataWords is own → AllByRecursion IsSpelled (section_words s own) → AllByRecursion IsSpelled (section_words s (rows_words is))
+plain_section s is own d all =
+    let dw = data_words s.params in
+    let front = front_all IsSpelled (dw ++ own) section_end_words all in
+    join_all IsSpelled (dw ++ rows_words is) section_end_words (join_all IsSpelled dw (rows_words is) (front_all IsSpelled dw own front) (plain_data is own d (back_all IsSpelled dw own front))) (back_all IsSpelled (dw ++ own) section_end_words all)
+
+plain_sections : (ss : List Section) (is : List Instance) (ws : List Word) → AreSectionsWords ss is ws → AllByRecursion IsSpelled ws → AllByRecursion IsSpelled (plainest_sections ss is)
+plain_sections [] is ws d h = tt
+plain_sections (s ∷ ss) is ws d h =
+    let all = subst (AllByRecursion IsSpelled) d.4 h in
+    let one = section_words s d.0 in
+    join_all IsSpelled (section_words s (rows_words (take s.count is))) (plainest_sections ss (drop s.count is)) (plain_section s (take s.count is) d.0 d.2 (front_all IsSpelled one d.1 all)) (plain_sections ss (drop s.count is) d.1 d.3 (back_all IsSpelled one d.1 all))
+
+plain_file : (h : List Entity) (ss : List Section) (is : List Instance) (sections : List Word) → AreSectionsWords ss is sections → AllByRecursion IsSpelled (file_words h sections) → AllByRecursion IsSpelled (file_words h (plainest_sections ss is))
+plain_file h ss is sections d all =
+    let before = opening_words ++ flat_map header_words h ++ section_end_words in
+    let plain = plainest_sections ss is in
+    let front = front_all IsSpelled (before ++ sections) file_end_words all in
+    join_all IsSpelled (before ++ plain) file_end_words (join_all IsSpelled before plain (front_all IsSpelled before sections front) (plain_sections ss is sections d (back_all IsSpelled before sections front))) (back_all IsSpelled (before ++ sections) file_end_words all)
 
 -- Files.
 
 abbrev pub content : Reader → Content
-content s = record { header = s.header; instances = s.instances }
+content s = record { header = s.header; sections = s.sections; instances = s.instances }
 
 module _ (limit : ℕ) where
   late_no_end : (count : ℕ) (es : List Entity) → 3 ≤ count → HeaderFrom limit count es → AllByRecursion (λ e. e.keyword ≢ codes "ENDSEC") es
@@ -120,20 +128,23 @@ module _ (limit : ℕ) where
   -- Files.
 
   done_derived : (s : Reader) (ws : List Word) → KeptAt limit Done s ws → AreFileWords (content s) ws
-  done_derived s ws k = let d = k.1 in (d.rows, d.derived, k.3 ∙ ap (λ xs. xs ++ closing_words) d.words)
+  done_derived s ws k = let d = k.1 in (d.sections, d.derived, k.3 ∙ ap (λ xs. xs ++ file_end_words) d.words)
 
   done_rule : (s : Reader) (ws : List Word) → KeptAt limit Done s ws → AllByRecursion IsSpelled ws → IsFileWithin limit (content s)
   unfolding done_derived
   done_rule s ws k spelled =
       let d = k.1 in
-      let fits = join_all (Fits limit) s.header (flat_map (λ i. i.parts) s.instances) (header_fits 0 s.header d.header) (parts_fit s.instances d.fit) in
+      let lists = flat_map (λ (u : Section). data_entities u.params) s.sections in
+      let fits = join_all (Fits limit) (s.header ++ lists) (flat_map (λ i. i.parts) s.instances) (join_all (Fits limit) s.header lists (header_fits 0 s.header d.header) d.lists) (parts_fit s.instances d.fit) in
       let derived = done_derived s ws k in
       record {
         names = names_from s.header d.header d.three;
         no_end = no_end_from s.header d.header;
+        section = k.4;
+        counts = d.counts;
         parts = d.some;
         whole = each (Fits limit) IsWhole _ (λ e f. f.1) fits;
-        spelled = plain_file s.header s.instances d.rows d.derived (subst (AllByRecursion IsSpelled) derived.2 spelled);
+        spelled = plain_file s.header s.sections s.instances d.sections d.derived (subst (AllByRecursion IsSpelled) derived.2 spelled);
         differ = d.differ;
         nested = each (Fits limit) (IsNestedWithin limit) _ (λ e f. f.0) fits;
       }
@@ -147,7 +158,7 @@ module _ (limit : ℕ) where
       subst (Kept limit t) (append_assoc us (w ∷ []) ws) (run_kept some ws (us ++ w ∷ []) first.0 t spelled.1 more first.2)
 
   pub start_kept : 0 < limit → (ws : List Word) (s : Reader) → AllByRecursion IsSpelled ws → run limit start ws ≡ Ok s → Kept limit s ws
-  start_kept some ws s spelled h = run_kept some ws [] start s spelled (((refl, refl, refl), refl), refl) h
+  start_kept some ws s spelled h = run_kept some ws [] start s spelled (((refl, refl, refl, refl), refl), refl) h
 
   -- what is read whole is a file, and its words are derived from it
   pub whole_is_file : 0 < limit → (ws : List Word) (s : Reader) → AllByRecursion IsSpelled ws → run limit start ws ≡ Ok s → s.place ≡ Done → IsFileWithin limit (content s) × AreFileWords (content s) ws

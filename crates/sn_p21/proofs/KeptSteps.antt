@@ -1,5 +1,5 @@
 -- A step keeps the words that were read, with the word that it takes behind them.
-use Rattle.std.proofs.Common.{◌≡◌, ℕ, ◌+◌, ◌<◌, ◌≤◌, true, false, nat_lt, ltb-true, inl, ⊎_elim, List, [], ◌∷◌, ◌++◌, length, flat_map, codes, Some, None, refl, sym, ap, subst, ◌∙◌, append_assoc, append-nil, length-append, arith}
+use Rattle.std.proofs.Common.{◌≡◌, ℕ, ◌+◌, ◌<◌, ◌≤◌, true, false, nat_lt, ltb-true, inl, ⊎_elim, List, [], ◌∷◌, ◌++◌, length, flat_map, map, codes, Option, Some, None, refl, sym, ap, subst, ◌∙◌, append_assoc, append-nil, length-append, arith}
 use Rattle.std.specs.List.{AllByRecursion}
 use Rattle.std.proofs.lemmas.Grind.{flat_map-append}
 use Rattle.sn_lex.specs.declared.token.Token.{Token}
@@ -7,6 +7,7 @@ use Rattle.sn_lex.specs.declared.token.Token.TheVariants.{FileStart, Keyword, Nu
 use Rattle.sn_p21.specs.declared.file.Param.{Param}
 use Rattle.sn_p21.specs.declared.file.Entity.{Entity}
 use Rattle.sn_p21.specs.declared.file.Instance.{Instance}
+use Rattle.sn_p21.specs.declared.file.Section.{Section}
 use Rattle.sn_p21.specs.declared.grammar.place.Place.TheVariants.{Fixed as FixedAt, NextPart}
 use Rattle.sn_p21.specs.declared.grammar.place.Fixed.{Fixed}
 use Rattle.sn_p21.specs.declared.grammar.place.Fixed.TheVariants as fixed
@@ -18,14 +19,14 @@ use Rattle.sn_p21.specs.declared.grammar.list.OpenList.{OpenList}
 use Rattle.sn_p21.specs.declared.grammar.reader.Reader.{Reader}
 use Rattle.sn_p21.specs.Numbers.{has_number, NumbersDiffer}
 use Rattle.sn_p21.specs.Word.{Word, Carries, mark, keyword}
-use Rattle.sn_p21.specs.Grammar.{param_words, entity_words, header_words, instance_words, AreInstanceWords, AreDataWords, opening_words, middle_words}
-use Rattle.sn_p21.specs.Reader.{twice, deep, accepts, place_after, closes, closes_in, takes_entity, takes_param, list_param, param_of_list, list_with, empty_list, opens, first_place, names_header_entity, ends_header}
+use Rattle.sn_p21.specs.Grammar.{param_words, list_words, entity_words, header_words, instance_words, AreInstanceWords, AreSectionsWords, data_entities, data_words, opening_words, section_end_words, counted}
+use Rattle.sn_p21.specs.Reader.{twice, deep, begins_section, counts_one, accepts, place_after, closes, closes_in, takes_entity, takes_param, list_param, param_of_list, list_with, empty_list, opens, first_place, names_header_entity, ends_header}
 use Rattle.sn_p21.proofs.NumberLemmas.{not_has_number, differ_push}
 use Rattle.sn_p21.proofs.ParamLayers.{words_list}
 use Rattle.sn_p21.proofs.FilesRead.{Fits, HeaderFrom, HasPart, AllFit}
 use Rattle.sn_p21.proofs.ListWords.{begun, lead, comma_words, FitsAt, fit_push, all_whole, all_within, AllAround, AllFitAt, around_push, around_pop, HeadPlain, head_push, head_pop, head_same, parted_cases}
-use Rattle.sn_p21.proofs.Kept.{InData, number_words, complex_words, Before, IsBefore, outside, InList, FixedKept, Kept}
-use Rattle.sn_p21.proofs.KeptLemmas.{Gave, same_reader, went, passed, word, named_word, semicolon_word, equals_word, file_start_word, file_end_word, grown, header_push, header_words_push, data_push, all_push}
+use Rattle.sn_p21.proofs.Kept.{InSections, InData, number_words, complex_words, Before, IsBefore, outside, InList, FixedKept, Kept}
+use Rattle.sn_p21.proofs.KeptLemmas.{Gave, same_reader, went, passed, word, named_word, semicolon_word, equals_word, file_start_word, grown, header_push, header_words_push, data_push, all_push}
 
 begun_push : (ls : List OpenList) (l : OpenList) → flat_map begun (ls ++ l ∷ []) ≡ flat_map begun ls ++ begun l
 begun_push ls l = flat_map-append begun ls (l ∷ []) ∙ ap (λ ws. flat_map begun ls ++ ws) (append-nil (begun l))
@@ -65,6 +66,7 @@ module _ (limit : ℕ) where
       let e = grown ws [] (mark FileStart ∷ mark Semicolon ∷ keyword (codes "HEADER") ∷ []) (word t v) _ k.1 (semicolon_word t v text c a) in (
         record {
           header = subst (HeaderFrom limit 0) (sym k.0.0) tt;
+          sections = k.0.3;
           instances = k.0.1;
           parts = k.0.2;
           words = e ∙ ap (λ h. opening_words ++ flat_map header_words h) (sym k.0.0);
@@ -73,35 +75,35 @@ module _ (limit : ℕ) where
       )
   fixed_kept fixed.HeaderEntityEnd s t v text ws c a k o =
       let e = ap (λ w. ws ++ w ∷ []) (sym (semicolon_word t v text c a)) in
-      (record { header = k.header; instances = k.instances; parts = k.parts; words = sym e ∙ k.words }, o)
-  fixed_kept fixed.HeaderSectionEnd s t v text ws c a k o = ((k.0, k.1, k.2, grown ws k.0 _ (word t v) _ k.3 (semicolon_word t v text c a)), o)
-  fixed_kept fixed.Data s t v text ws c a k o = ((k.0, k.1, k.2, grown ws k.0 _ (word t v) _ k.3 (named_word t v _ a)), o)
-  fixed_kept fixed.DataEnd s t v text ws c a k o =
+      (record { header = k.header; sections = k.sections; instances = k.instances; parts = k.parts; words = sym e ∙ k.words }, o)
+  fixed_kept fixed.HeaderSectionEnd s t v text ws c a k o =
       let h = k.1 in
       let e = grown ws k.0 _ (word t v) _ k.3 (semicolon_word t v text c a) in (
         (
           record {
-            rows = [];
+            sections = [];
             header = h.header;
             three = k.2;
-            derived = subst (λ is. AreDataWords is []) (sym h.instances) refl;
+            derived = subst (λ ss. AreSectionsWords ss s.instances []) (sym h.sections) refl;
+            counts = ap counted h.sections ∙ ap length (sym h.instances);
+            lists = subst (λ ss. AllByRecursion (Fits limit) (flat_map (λ (u : Section). data_entities u.params) ss)) (sym h.sections) tt;
             some = subst (AllByRecursion HasPart) (sym h.instances) tt;
             fit = subst (AllFit limit) (sym h.instances) tt;
             differ = subst NumbersDiffer (sym h.instances) tt;
-            words = e ∙ ap (λ xs. xs ++ middle_words) h.words ∙ sym (append-nil (opening_words ++ flat_map header_words s.header ++ middle_words));
+            words = e ∙ ap (λ xs. xs ++ section_end_words) h.words ∙ sym (append-nil (opening_words ++ flat_map header_words s.header ++ section_end_words));
           },
           h.parts,
         ),
         o,
       )
   fixed_kept fixed.Equals s t v text ws c a k o = ((k.0, k.1, k.2, grown ws k.0 _ (word t v) _ k.3 (equals_word t v text c a), k.4), o)
+  fixed_kept fixed.SectionParamsEnd s t v text ws c a k o =
+      ((subst (InData limit s.header s.sections s.section s.instances) (ap (λ w. ws ++ w ∷ []) (sym (semicolon_word t v text c a))) k.0, k.1), o)
   fixed_kept fixed.InstanceEnd s t v text ws c a k o =
-      let d = k.0 in
-      let e = ap (λ w. ws ++ w ∷ []) (sym (semicolon_word t v text c a)) in
-      ((record { rows = d.rows; header = d.header; three = d.three; derived = d.derived; some = d.some; fit = d.fit; differ = d.differ; words = sym e ∙ d.words }, k.1), o)
-  fixed_kept fixed.DataSectionEnd s t v text ws c a k o = ((k.0, k.1, k.2, grown ws k.0 _ (word t v) _ k.3 (semicolon_word t v text c a)), o)
-  fixed_kept fixed.FileEnd s t v text ws c a k o = ((k.0, k.1, k.2, grown ws k.0 _ (word t v) _ k.3 (file_end_word t v text c a)), o)
-  fixed_kept fixed.FileEndEnd s t v text ws c a k o = ((k.0, k.1, k.2, grown ws k.0 _ (word t v) _ k.3 (semicolon_word t v text c a)), o)
+      ((subst (InData limit s.header s.sections s.section s.instances) (ap (λ w. ws ++ w ∷ []) (sym (semicolon_word t v text c a))) k.0, k.1), o)
+  fixed_kept fixed.DataSectionEnd s t v text ws c a k o =
+      ((subst (InSections limit s.header s.sections s.instances) (ap (λ w. ws ++ w ∷ []) (sym (semicolon_word t v text c a))) k.0, k.1, k.2), o)
+  fixed_kept fixed.FileEndEnd s t v text ws c a k o = ((k.0, k.1, k.2, grown ws k.0 _ (word t v) _ k.3 (semicolon_word t v text c a), k.4), o)
 
   -- Lists.
 
@@ -150,40 +152,69 @@ module _ (limit : ℕ) where
 
   -- Entities and instances.
 
-  pub instance_kept : (h : List Entity) (is : List Instance) (front : List Word) (n : ℕ) (ps : List Entity) (iw ws : List Word) → InData limit h is front → has_number n is ≡ false → 0 < length ps → AllByRecursion (Fits limit) ps → AreInstanceWords (record { number = n; parts = ps }) iw → ws ≡ front ++ iw → InData limit h (is ++ (record { number = n; parts = ps }) ∷ []) ws
-  instance_kept h is front n ps iw ws d new some fit derived e =
+  pub instance_kept : (h : List Entity) (ss : List Section) (sec : Section) (is : List Instance) (front : List Word) (n : ℕ) (ps : List Entity) (iw ws : List Word) → InData limit h ss sec is front → has_number n is ≡ false → 0 < length ps → AllByRecursion (Fits limit) ps → AreInstanceWords (record { number = n; parts = ps }) iw → ws ≡ front ++ iw → InData limit h ss (counts_one sec) (is ++ (record { number = n; parts = ps }) ∷ []) ws
+  instance_kept h ss sec is front n ps iw ws d new some fit derived e =
       let i : Instance = record { number = n; parts = ps } in
-      let before = opening_words ++ flat_map header_words h ++ middle_words in
       record {
+        front = d.front;
+        earlier = d.earlier;
+        before = d.before;
+        own = d.own ++ i ∷ [];
         rows = d.rows ++ iw;
-        header = d.header;
-        three = d.three;
-        derived = data_push is i d.rows iw d.derived derived;
+        derived = data_push d.own i d.rows iw d.derived derived;
+        count = (let count = d.count in let more = length-append d.own (i ∷ []) in omega arith);
+        split = ap (λ js. js ++ i ∷ []) d.split ∙ append_assoc d.earlier d.own (i ∷ []);
+        list = d.list;
         some = all_push HasPart is i d.some some;
         fit = all_push (λ j. AllByRecursion (Fits limit) j.parts) is i d.fit fit;
         differ = differ_push is i d.differ (not_has_number n is new);
-        words = e ∙ ap (λ xs. xs ++ iw) d.words ∙ append_assoc before d.rows iw;
+        words = e ∙ ap (λ xs. xs ++ iw) d.words ∙ append_assoc (d.front ++ data_words sec.params) d.rows iw;
       }
 
-  entity_kept : (o : Owner) (s t : Reader) (ws front : List Word) (e : Entity) → Before limit o s.header s.instances s.number s.parts e.keyword front → Fits limit e → s.outer ≡ [] → ws ≡ front ++ entity_words e → Gave (takes_entity o s e) t → Kept limit t ws
+  -- a section that has no instance yet
+  pub section_begun : (h : List Entity) (ss : List Section) (params : Option (List Param)) (is : List Instance) (front ws : List Word) → InSections limit h ss is front → AllByRecursion (Fits limit) (data_entities params) → ws ≡ front ++ data_words params → InData limit h ss (record { params = params; count = 0 }) is ws
+  section_begun h ss params is front ws b list e = record {
+    front = front;
+    earlier = is;
+    before = b;
+    own = [];
+    rows = [];
+    derived = refl;
+    count = refl;
+    split = sym (append-nil is);
+    list = list;
+    some = b.some;
+    fit = b.fit;
+    differ = b.differ;
+    words = e ∙ sym (append-nil (front ++ data_words params));
+  }
+
+  entity_kept : (o : Owner) (s t : Reader) (ws front : List Word) (e : Entity) → Before limit o s.header s.sections s.section s.instances s.number s.parts e.keyword front → Fits limit e → s.outer ≡ [] → ws ≡ front ++ entity_words e → Gave (takes_entity o s e) t → Kept limit t ws
   entity_kept owner.Header s t ws front e b fits outer w h =
       let z : length s.header ≡ 0 + length s.header = omega arith in
       let hw = flat_map header_words s.header in
       gone (record s { header = s.header ++ e ∷ []; place = FixedAt fixed.HeaderEntityEnd }) t ws (same_reader _ t h) (
         record {
           header = header_push limit 0 s.header e b.0.header (subst (λ n. ends_header n Keyword e.keyword ≡ false) z b.1) (subst (λ n. names_header_entity n Keyword e.keyword ≡ true) z b.2) fits;
+          sections = b.0.sections;
           instances = b.0.instances;
           parts = b.0.parts;
           words = ap (λ xs. xs ++ mark Semicolon ∷ []) w ∙ append_assoc front (entity_words e) (mark Semicolon ∷ []) ∙ ap (λ xs. xs ++ header_words e) b.0.words ∙ append_assoc opening_words hw (header_words e) ∙ ap (λ xs. opening_words ++ xs) (sym (header_words_push s.header e));
         },
         outer,
       )
+  entity_kept owner.Section s t ws front e b fits outer w h =
+      let params = e.params in
+      let list = list_words (map param_words params) in
+      let named = ap (λ k. record { keyword = k; params = params }) b.2 in
+      gone (begins_section (FixedAt fixed.SectionParamsEnd) (Some params) s) t ws (same_reader _ t h)
+      ((section_begun s.header s.sections (Some params) s.instances front (ws ++ mark Semicolon ∷ []) b.0 (subst (Fits limit) named fits, tt) (ap (λ xs. xs ++ mark Semicolon ∷ []) w ∙ append_assoc front (entity_words e) (mark Semicolon ∷ []) ∙ ap (λ k. front ++ (keyword k ∷ list ++ mark Semicolon ∷ [])) b.2), b.1), outer)
   entity_kept owner.Simple s t ws front e b fits outer w h =
       let n = s.number in
-      let p = passed (has_number n s.instances) (twice n) (record s { instances = s.instances ++ (record { number = n; parts = e ∷ [] }) ∷ []; place = FixedAt fixed.InstanceEnd }) t h in
+      let p = passed (has_number n s.instances) (twice n) (record s { section = counts_one s.section; instances = s.instances ++ (record { number = n; parts = e ∷ [] }) ∷ []; place = FixedAt fixed.InstanceEnd }) t h in
       let iw = instance_words n (entity_words e) in
       let same = ap (λ xs. xs ++ mark Semicolon ∷ []) (w ∙ ap (λ xs. xs ++ entity_words e) b.3 ∙ append_assoc b.0 (number_words n) (entity_words e)) ∙ append_assoc b.0 (mark (Number n) ∷ mark Equals ∷ entity_words e) (mark Semicolon ∷ []) in
-      gone _ t ws p.1 ((instance_kept s.header s.instances b.0 n (e ∷ []) iw (ws ++ mark Semicolon ∷ []) b.1 p.0 (omega arith) (fits, tt) (inl refl) same, b.2), outer)
+      gone _ t ws p.1 ((instance_kept s.header s.sections s.section s.instances b.0 n (e ∷ []) iw (ws ++ mark Semicolon ∷ []) b.1 p.0 (omega arith) (fits, tt) (inl refl) same, b.2), outer)
   entity_kept owner.Complex s t ws front e b fits outer w h =
       let ps = s.parts in
       let n = s.number in

@@ -5,6 +5,7 @@ mod FileOrFault
 mod FilesRead
 mod FirstFaults
 mod InstanceLemmas
+mod InstancesSpelled
 mod Kept
 mod KeptLemmas
 mod KeptSteps

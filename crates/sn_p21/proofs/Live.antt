@@ -5,8 +5,9 @@ use Rattle.sn_lex.specs.declared.token.Token.TheVariants.{FileStart, FileEnd, Ke
 use Rattle.sn_p21.specs.declared.file.Param.TheVariants as param
 use Rattle.sn_p21.specs.declared.file.Entity.{Entity}
 use Rattle.sn_p21.specs.declared.file.Instance.{Instance}
+use Rattle.sn_p21.specs.declared.file.Section.{Section}
 use Rattle.sn_p21.specs.declared.grammar.place.Place.{Place}
-use Rattle.sn_p21.specs.declared.grammar.place.Place.TheVariants.{Fixed as FixedAt, HeaderEntity, OwnList, FirstParam, NextParam, AfterParam, TypedList, Instance as InstanceAt, Body, FirstPart, NextPart, Done}
+use Rattle.sn_p21.specs.declared.grammar.place.Place.TheVariants.{Fixed as FixedAt, HeaderEntity, OwnList, FirstParam, NextParam, AfterParam, TypedList, Section as SectionAt, NextSection, SectionParams, Instance as InstanceAt, Body, FirstPart, NextPart, Done}
 use Rattle.sn_p21.specs.declared.grammar.place.Fixed.{Fixed}
 use Rattle.sn_p21.specs.declared.grammar.place.Fixed.TheVariants as fixed
 use Rattle.sn_p21.specs.declared.grammar.place.Owner.{Owner}
@@ -16,7 +17,7 @@ use Rattle.sn_p21.specs.declared.grammar.list.OpenList.{OpenList}
 use Rattle.sn_p21.specs.declared.grammar.reader.Reader.{Reader}
 use Rattle.sn_p21.specs.Numbers.{has_number}
 use Rattle.sn_p21.specs.Word.{Word, IsSpelled, mark, keyword}
-use Rattle.sn_p21.specs.Reader.{Step, Refusal, unexpected, twice, deep, step, takes_entity, takes_instance, takes_param, list_param, closes_in, parted, empty_list, names_header_entity, ends_header}
+use Rattle.sn_p21.specs.Reader.{Step, Refusal, unexpected, twice, deep, step, begins_section, counts_one, ends_section, takes_entity, takes_instance, takes_param, list_param, closes_in, parted, empty_list, names_header_entity, ends_header}
 use Rattle.sn_p21.proofs.ListWords.{parted_cases}
 use Rattle.sn_p21.proofs.Kept.{Before, IsBefore, FixedKept, KeptAt, Kept, IsOutside}
 use Rattle.sn_p21.proofs.Runs.{and_then, run}
@@ -72,6 +73,7 @@ closing_spelled = (section_end, (semicolon, (file_end, (semicolon, tt))))
 -- the number of the instance that an entity of this owner belongs to is a new one
 abbrev pub IsNew : Owner → ℕ → List Instance → Type 0
 IsNew owner.Header n is = Unit {0}
+IsNew owner.Section n is = Unit {0}
 IsNew owner.Simple n is = has_number n is ≡ false
 IsNew owner.Complex n is = has_number n is ≡ false
 
@@ -102,26 +104,33 @@ module _ (limit : ℕ) where
   at_file_end_end : (s : Reader) → Finishes (record s { place = FixedAt fixed.FileEndEnd })
   at_file_end_end s = takes (record s { place = FixedAt fixed.FileEndEnd }) (record s { place = Done }) (mark Semicolon) semicolon refl (at_done s)
 
-  at_file_end : (s : Reader) → Finishes (record s { place = FixedAt fixed.FileEnd })
-  at_file_end s = takes (record s { place = FixedAt fixed.FileEnd }) (record s { place = FixedAt fixed.FileEndEnd }) (mark FileEnd) file_end refl (at_file_end_end s)
+  at_next_section : (s : Reader) → Finishes (record s { place = NextSection })
+  at_next_section s = takes (record s { place = NextSection }) (record s { place = FixedAt fixed.FileEndEnd }) (mark FileEnd) file_end refl (at_file_end_end s)
 
   at_data_section_end : (s : Reader) → Finishes (record s { place = FixedAt fixed.DataSectionEnd })
-  at_data_section_end s = takes (record s { place = FixedAt fixed.DataSectionEnd }) (record s { place = FixedAt fixed.FileEnd }) (mark Semicolon) semicolon refl (at_file_end s)
+  at_data_section_end s = takes (record s { place = FixedAt fixed.DataSectionEnd }) (record s { place = NextSection }) (mark Semicolon) semicolon refl (at_next_section s)
 
   at_instance : (s : Reader) → Finishes (record s { place = InstanceAt })
-  at_instance s = takes (record s { place = InstanceAt }) (record s { place = FixedAt fixed.DataSectionEnd }) (keyword (codes "ENDSEC")) section_end refl (at_data_section_end s)
+  at_instance s = takes (record s { place = InstanceAt }) (ends_section s) (keyword (codes "ENDSEC")) section_end refl (at_data_section_end (ends_section s))
 
   at_instance_end : (s : Reader) → Finishes (record s { place = FixedAt fixed.InstanceEnd })
   at_instance_end s = takes (record s { place = FixedAt fixed.InstanceEnd }) (record s { place = InstanceAt }) (mark Semicolon) semicolon refl (at_instance s)
 
-  at_data_end : (s : Reader) → Finishes (record s { place = FixedAt fixed.DataEnd })
-  at_data_end s = takes (record s { place = FixedAt fixed.DataEnd }) (record s { place = InstanceAt }) (mark Semicolon) semicolon refl (at_instance s)
+  at_section_params_end : (s : Reader) → Finishes (record s { place = FixedAt fixed.SectionParamsEnd })
+  at_section_params_end s = takes (record s { place = FixedAt fixed.SectionParamsEnd }) (record s { place = InstanceAt }) (mark Semicolon) semicolon refl (at_instance s)
 
-  at_data : (s : Reader) → Finishes (record s { place = FixedAt fixed.Data })
-  at_data s = takes (record s { place = FixedAt fixed.Data }) (record s { place = FixedAt fixed.DataEnd }) (keyword (codes "DATA")) data_name refl (at_data_end s)
+  at_section_params : (s : Reader) → Finishes (record s { place = SectionParams })
+  at_section_params s =
+      let r = begins_section InstanceAt None (record s { keyword = [] }) in
+      takes (record s { place = SectionParams }) r (mark Semicolon) semicolon refl (at_instance r)
+
+  at_section : (s : Reader) → Finishes (record s { place = SectionAt })
+  at_section s =
+      let r = record s { owner = owner.Section; keyword = codes "DATA" } in
+      takes (record s { place = SectionAt }) (record r { place = SectionParams }) (keyword (codes "DATA")) data_name refl (at_section_params r)
 
   at_header_section_end : (s : Reader) → Finishes (record s { place = FixedAt fixed.HeaderSectionEnd })
-  at_header_section_end s = takes (record s { place = FixedAt fixed.HeaderSectionEnd }) (record s { place = FixedAt fixed.Data }) (mark Semicolon) semicolon refl (at_data s)
+  at_header_section_end s = takes (record s { place = FixedAt fixed.HeaderSectionEnd }) (record s { place = SectionAt }) (mark Semicolon) semicolon refl (at_section s)
 
   -- Within the header.
 
@@ -174,7 +183,7 @@ module _ (limit : ℕ) where
   -- the instance ends with these parts
   taken_instance : (s : Reader) (ps : List Entity) → has_number s.number s.instances ≡ false → (r : Reader) × (takes_instance s ps ≡ Ok r) × Finishes r
   taken_instance s ps new =
-      let r = record s { instances = s.instances ++ (record { number = s.number; parts = ps }) ∷ []; place = FixedAt fixed.InstanceEnd } in
+      let r = record s { section = counts_one s.section; instances = s.instances ++ (record { number = s.number; parts = ps }) ∷ []; place = FixedAt fixed.InstanceEnd } in
       (r, fresh_step (has_number s.number s.instances) (twice s.number) r new, at_instance_end r)
 
   at_next_part : (s : Reader) → has_number s.number s.instances ≡ false → Finishes (record s { place = NextPart })
@@ -186,6 +195,9 @@ module _ (limit : ℕ) where
   taken_entity owner.Header s e none new =
       let r = record s { header = s.header ++ e ∷ []; place = FixedAt fixed.HeaderEntityEnd } in
       (r, refl, takes r (record r { place = HeaderEntity }) (mark Semicolon) semicolon refl (at_header_entity r.header r refl none))
+  taken_entity owner.Section s e none new =
+      let r = begins_section (FixedAt fixed.SectionParamsEnd) (Some e.params) s in
+      (r, refl, at_section_params_end r)
   taken_entity owner.Simple s e none new = taken_instance s (e ∷ []) new
   taken_entity owner.Complex s e none new =
       let r = record s { parts = s.parts ++ e ∷ []; place = NextPart } in
@@ -248,13 +260,14 @@ module _ (limit : ℕ) where
 
   -- At every place.
 
-  before_new : (o : Owner) (h : List Entity) (is : List Instance) (n : ℕ) (ps : List Entity) (name : List ℕ) (ws : List Word) → Before limit o h is n ps name ws → IsNew o n is
-  before_new owner.Header h is n ps name ws k = tt
-  before_new owner.Simple h is n ps name ws k = k.4
-  before_new owner.Complex h is n ps name ws k = k.4
+  before_new : (o : Owner) (h : List Entity) (ss : List Section) (sec : Section) (is : List Instance) (n : ℕ) (ps : List Entity) (name : List ℕ) (ws : List Word) → Before limit o h ss sec is n ps name ws → IsNew o n is
+  before_new owner.Header h ss sec is n ps name ws k = tt
+  before_new owner.Section h ss sec is n ps name ws k = tt
+  before_new owner.Simple h ss sec is n ps name ws k = k.4
+  before_new owner.Complex h ss sec is n ps name ws k = k.4
 
   pub is_new : (s : Reader) (ws : List Word) → IsBefore limit s ws → IsNew s.owner s.number s.instances
-  is_new s ws k = before_new s.owner s.header s.instances s.number s.parts s.keyword ws k
+  is_new s ws k = before_new s.owner s.header s.sections s.section s.instances s.number s.parts s.keyword ws k
 
   at_header_end : (s : Reader) → s.outer ≡ [] → Finishes (record s { place = FixedAt fixed.HeaderEnd })
   at_header_end s none = takes (record s { place = FixedAt fixed.HeaderEnd }) (record s { place = HeaderEntity }) (mark Semicolon) semicolon refl (at_header_entity s.header s refl none)
@@ -272,12 +285,10 @@ module _ (limit : ℕ) where
   at_fixed fixed.HeaderEnd s ws k none = at_header_end s none
   at_fixed fixed.HeaderEntityEnd s ws k none = takes (record s { place = FixedAt fixed.HeaderEntityEnd }) (record s { place = HeaderEntity }) (mark Semicolon) semicolon refl (at_header_entity s.header s refl none)
   at_fixed fixed.HeaderSectionEnd s ws k none = at_header_section_end s
-  at_fixed fixed.Data s ws k none = at_data s
-  at_fixed fixed.DataEnd s ws k none = at_data_end s
+  at_fixed fixed.SectionParamsEnd s ws k none = at_section_params_end s
   at_fixed fixed.Equals s ws k none = takes (record s { place = FixedAt fixed.Equals }) (record s { place = Body }) (mark Equals) equals refl (at_body s none k.4)
   at_fixed fixed.InstanceEnd s ws k none = at_instance_end s
   at_fixed fixed.DataSectionEnd s ws k none = at_data_section_end s
-  at_fixed fixed.FileEnd s ws k none = at_file_end s
   at_fixed fixed.FileEndEnd s ws k none = at_file_end_end s
 
   at_place : (p : Place) (s : Reader) (ws : List Word) → KeptAt limit p s ws → IsOutside p s → HasListRoom limit p s → Finishes (record s { place = p })
@@ -288,6 +299,9 @@ module _ (limit : ℕ) where
   at_place NextParam s ws k o room = at_next_param s (is_new s k.front k.before)
   at_place AfterParam s ws k o room = at_after_param (length s.outer) s refl (is_new s k.front k.before)
   at_place TypedList s ws k o room = at_typed_list s (is_new s k.1.front k.1.before) room
+  at_place SectionAt s ws k o room = at_section s
+  at_place NextSection s ws k o room = at_next_section s
+  at_place SectionParams s ws k o room = at_section_params s
   at_place InstanceAt s ws k o room = at_instance s
   at_place Body s ws k o room = at_body s o k.4
   at_place FirstPart s ws k o room = at_first_part s o k.4

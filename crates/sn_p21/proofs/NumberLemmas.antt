@@ -45,3 +45,12 @@ differ_push (i ∷ is) j d new = (
   λ h. ⊎_elim d.0 (λ (k : HasNumber i.number (j ∷ [])). ⊎_elim (λ (e : j.number ≡ i.number). new (inl (sym e))) (λ (z : ⊥). z) k) (has_number_append i.number is (j ∷ []) h),
   differ_push is j d.1 (λ h. new (inr h)),
 )
+
+number_in_front : (n : ℕ) (is js : List Instance) → HasNumber n is → HasNumber n (is ++ js)
+number_in_front n [] js h = absurd h
+number_in_front n (i ∷ is) js (inl e) = inl e
+number_in_front n (i ∷ is) js (inr h) = inr (number_in_front n is js h)
+
+pub differ_front : (is js : List Instance) → NumbersDiffer (is ++ js) → NumbersDiffer is
+differ_front [] js d = tt
+differ_front (i ∷ is) js d = (λ h. d.0 (number_in_front i.number is js h), differ_front is js d.1)

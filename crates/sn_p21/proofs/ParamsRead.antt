@@ -60,6 +60,7 @@ second_true false b h = absurd (let e : false ≡ true = h in cc)
 
 entity_any_place : (w : Owner) (s : Reader) (x y : Place) (e : Entity) → takes_entity w (record s { place = x }) e ≡ takes_entity w (record s { place = y }) e
 entity_any_place owner.Header s x y e = refl
+entity_any_place owner.Section s x y e = refl
 entity_any_place owner.Simple s x y e = refl
 entity_any_place owner.Complex s x y e = refl
 

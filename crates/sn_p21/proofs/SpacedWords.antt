@@ -1,5 +1,5 @@
 -- Each word of a file is a mark, or a mark follows it.
-use Rattle.std.proofs.Common.{◌⊎◌, ℕ, inl, inr, List, [], ◌∷◌, ◌++◌, map, flat_map, sym, ap, subst, ◌≡◌, refl, append_assoc, append-nil}
+use Rattle.std.proofs.Common.{◌⊎◌, ℕ, inl, inr, List, [], ◌∷◌, ◌++◌, map, take, drop, flat_map, Option, Some, None, sym, ap, subst, ◌≡◌, refl, append_assoc, append-nil}
 use denote.Hole.Carrier.{roll}
 use Rattle.sn_lex.specs.declared.token.Token.TheVariants.{Number, Integer, Real, Text, Enumeration, Binary, RightParen, Semicolon, Dollar, Star}
 use Rattle.sn_p21.specs.declared.file.Param.{Param}
@@ -9,8 +9,9 @@ use Rattle.sn_p21.specs.declared.file.Param.TheViews.{roll-Param}
 use Rattle.sn_p21.specs.declared.file.Param.TheFolds.{ind-Param, map-Param}
 use Rattle.sn_p21.specs.declared.file.Entity.{Entity}
 use Rattle.sn_p21.specs.declared.file.Instance.{Instance}
+use Rattle.sn_p21.specs.declared.file.Section.{Section}
 use Rattle.sn_p21.specs.Content.{Content}
-use Rattle.sn_p21.specs.Grammar.{param_words, list_words, rest_of_list, entity_words, header_words, enclosed_words, parts_words, opening_words, middle_words, closing_words, plainest_words}
+use Rattle.sn_p21.specs.Grammar.{param_words, list_words, rest_of_list, entity_words, header_words, enclosed_words, parts_words, opening_words, section_end_words, file_end_words, data_entity, data_words, rows_words, section_words, plainest_sections, plainest_words}
 use Rattle.sn_p21.specs.Word.{Word, mark}
 use Rattle.sn_p21.proofs.ParamLayers.{words_int, words_real, words_text, words_enum, words_binary, words_ref, words_list, words_typed, words_absent, words_derived}
 use Rattle.sn_p21.proofs.ParamsRead.{words_of}
@@ -130,18 +131,31 @@ row_spaced i rest all = (tt, inr tt, (tt, inl tt, joined (parts_words i.parts) (
 opening_spaced : EndSpaced opening_words
 opening_spaced rest all = (tt, inr tt, (tt, inl tt, (tt, inr tt, (tt, inl tt, all))))
 
-middle_spaced : EndSpaced middle_words
-middle_spaced rest all = (tt, inr tt, (tt, inl tt, (tt, inr tt, (tt, inl tt, all))))
+section_end_spaced : EndSpaced section_end_words
+section_end_spaced rest all = (tt, inr tt, (tt, inl tt, all))
 
-closing_spaced : EndSpaced closing_words
-closing_spaced rest all = (tt, inr tt, (tt, inl tt, (tt, inr tt, (tt, inl tt, all))))
+file_end_spaced : EndSpaced file_end_words
+file_end_spaced rest all = (tt, inr tt, (tt, inl tt, all))
+
+data_spaced : (params : Option (List Param)) → EndSpaced (data_words params)
+data_spaced None rest all = (tt, inr tt, (tt, inl tt, all))
+data_spaced (Some params) rest all = header_entity_spaced (data_entity params) rest all
+
+section_spaced : (s : Section) (is : List Instance) → EndSpaced (section_words s (rows_words is))
+section_spaced s is =
+    let begun = joined (data_words s.params) (rows_words is) (data_spaced s.params) (each_spaced row_words row_spaced is) in
+    joined (data_words s.params ++ rows_words is) section_end_words begun section_end_spaced
+
+sections_spaced : (ss : List Section) (is : List Instance) → EndSpaced (plainest_sections ss is)
+sections_spaced [] is rest all = all
+sections_spaced (s ∷ ss) is rest all = joined (section_words s (rows_words (take s.count is))) (plainest_sections ss (drop s.count is)) (section_spaced s (take s.count is)) (sections_spaced ss (drop s.count is)) rest all
 
 pub file_spaced : (f : Content) → AreSpaced (plainest_words f)
 file_spaced f =
     let header = flat_map header_words f.header in
-    let rows = flat_map row_words f.instances in
+    let sections = plainest_sections f.sections f.instances in
     let begun = joined opening_words header opening_spaced (each_spaced header_words header_entity_spaced f.header) in
-    let half = joined (opening_words ++ header) middle_words begun middle_spaced in
-    let most = joined (opening_words ++ header ++ middle_words) rows half (each_spaced row_words row_spaced f.instances) in
-    let all = joined (opening_words ++ header ++ middle_words ++ rows) closing_words most closing_spaced in
+    let half = joined (opening_words ++ header) section_end_words begun section_end_spaced in
+    let most = joined (opening_words ++ header ++ section_end_words) sections half (sections_spaced f.sections f.instances) in
+    let all = joined (opening_words ++ header ++ section_end_words ++ sections) file_end_words most file_end_spaced in
     subst AreSpaced (append-nil (plainest_words f)) (all [] tt)

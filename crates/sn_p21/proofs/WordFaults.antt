@@ -9,7 +9,7 @@ use Rattle.sn_p21.specs.declared.fault.P21Fault.{P21Fault}
 use Rattle.sn_p21.specs.declared.fault.P21Fault.TheVariants as fault
 use Rattle.sn_p21.specs.declared.file.Entity.{Entity}
 use Rattle.sn_p21.specs.declared.grammar.place.Place.{Place}
-use Rattle.sn_p21.specs.declared.grammar.place.Place.TheVariants.{Fixed as FixedAt, HeaderEntity, OwnList, FirstParam, NextParam, AfterParam, TypedList, Instance as InstanceAt, Body, FirstPart, NextPart, Done}
+use Rattle.sn_p21.specs.declared.grammar.place.Place.TheVariants.{Fixed as FixedAt, HeaderEntity, OwnList, FirstParam, NextParam, AfterParam, TypedList, Section as SectionAt, NextSection, SectionParams, Instance as InstanceAt, Body, FirstPart, NextPart, Done}
 use Rattle.sn_p21.specs.declared.grammar.place.Fixed.{Fixed}
 use Rattle.sn_p21.specs.declared.grammar.place.Fixed.TheVariants as fixed
 use Rattle.sn_p21.specs.declared.grammar.place.Owner.{Owner}
@@ -22,9 +22,9 @@ use Rattle.sn_p21.specs.FirstFault.{IsTaken, IsDeeper, IsWordFault}
 use Rattle.sn_p21.specs.Grammar.{closing_words}
 use Rattle.sn_p21.specs.Numbers.{has_number}
 use Rattle.sn_p21.specs.Word.{Word, Carries, IsSpelled, IsSpelling, mark}
-use Rattle.sn_p21.specs.Reader.{Step, Refusal, unexpected, twice, deep, Refuses, accepts, place_after, is_keyword_named, names_header_entity, ends_header, empty_list, first_place, is_typed, parted, step, step_at, step_param, opens, takes_entity, closes, closes_in, start}
-use Rattle.sn_p21.proofs.FilesRead.{file_is_read}
-use Rattle.sn_p21.proofs.FileKept.{content, join_all, start_kept, whole_is_file}
+use Rattle.sn_p21.specs.Reader.{Step, Refusal, unexpected, twice, deep, Refuses, accepts, place_after, is_keyword_named, names_header_entity, ends_header, empty_list, first_place, is_typed, parted, ends_section, step, step_at, step_param, opens, takes_entity, closes, closes_in, start}
+use Rattle.sn_p21.proofs.FilesRead.{file_is_read, join_all}
+use Rattle.sn_p21.proofs.FileKept.{content, start_kept, whole_is_file}
 use Rattle.sn_p21.proofs.Kept.{KeptAt}
 use Rattle.sn_p21.proofs.KeptLemmas.{same_reader, no_reader, word}
 use Rattle.sn_p21.proofs.NumberLemmas.{has_number-true, has_number-from}
@@ -59,6 +59,7 @@ plain_new b n s e = subst (λ c. IsPlain (cond c (Err (twice n)) (Ok s))) (sym e
 
 plain_entity : (o : Owner) (s : Reader) (e : Entity) → IsNew o s.number s.instances → IsPlain (takes_entity o s e)
 plain_entity owner.Header s e new = tt
+plain_entity owner.Section s e new = tt
 plain_entity owner.Simple s e new = plain_new (has_number s.number s.instances) s.number _ new
 plain_entity owner.Complex s e new = tt
 
@@ -135,6 +136,19 @@ instance_case (Number n) s v = number_case (has_number n s.instances) n s _ _ re
 instance_case Keyword s v = plain (plain_either (is_keyword_named Keyword v (codes "ENDSEC")) _)
 instance_case _ s v = plain tt
 
+section_case : (t : Token) (s : Reader) (v : List ℕ) → CaseAt SectionAt s t v
+section_case t s v = plain (plain_either (is_keyword_named t v (codes "DATA")) _)
+
+next_section_case : (t : Token) (s : Reader) (v : List ℕ) → CaseAt NextSection s t v
+next_section_case FileEnd s v = plain tt
+next_section_case Keyword s v = plain (plain_either (is_keyword_named Keyword v (codes "DATA")) _)
+next_section_case _ s v = plain tt
+
+section_params_case : (t : Token) (s : Reader) (v : List ℕ) → CaseAt SectionParams s t v
+section_params_case Semicolon s v = plain tt
+section_params_case LeftParen s v = plain tt
+section_params_case _ s v = plain tt
+
 own_list_case : (t : Token) (s : Reader) (v : List ℕ) → CaseAt OwnList s t v
 own_list_case LeftParen s v = plain tt
 own_list_case _ s v = plain tt
@@ -159,6 +173,9 @@ case_at FirstParam s t v ws k = first_case t s v k.0.depth (is_new MAX_OPEN_LIST
 case_at NextParam s t v ws k = param_case NextParam t s v k.depth
 case_at AfterParam s t v ws k = after_case t s v (is_new MAX_OPEN_LISTS s k.front k.before)
 case_at TypedList s t v ws k = typed_case t s v k.1.depth
+case_at SectionAt s t v ws k = section_case t s v
+case_at NextSection s t v ws k = next_section_case t s v
+case_at SectionParams s t v ws k = section_params_case t s v
 case_at InstanceAt s t v ws k = instance_case t s v
 case_at Body s t v ws k = body_case t s v
 case_at FirstPart s t v ws k = first_part_case t s v
@@ -188,10 +205,8 @@ not_plain r why e h = subst IsPlain e h
 
 closes_fixed : (f : Fixed) → accepts f Keyword (codes "ENDSEC") ≡ false
 closes_fixed fixed.FileStart = refl
-closes_fixed fixed.FileEnd = refl
 closes_fixed fixed.Equals = refl
 closes_fixed fixed.Header = refl
-closes_fixed fixed.Data = refl
 closes_fixed _ = refl
 
 closes_header : {A : Type 0} → (b d : Bool) (s r t : Reader) → and_then (cond b (Ok (record s { place = FixedAt fixed.HeaderSectionEnd })) (cond d (Ok (record r { place = OwnList })) (Err unexpected))) (λ next. run MAX_OPEN_LISTS next (mark Semicolon ∷ mark FileEnd ∷ mark Semicolon ∷ [])) ≡ Ok t → A
@@ -203,7 +218,10 @@ closes_header false false s r t h = no_reader unexpected t h
 closes_at : (p : Place) (s t : Reader) → run MAX_OPEN_LISTS (record s { place = p }) closing_words ≡ Ok t → (p ≡ InstanceAt) × (s.instances ≡ t.instances)
 closes_at (FixedAt f) s t h = no_reader unexpected t (sym (ap (λ b. and_then (cond b (Ok (record s { place = place_after f })) (Err unexpected)) (λ next. run MAX_OPEN_LISTS next (mark Semicolon ∷ mark FileEnd ∷ mark Semicolon ∷ []))) (closes_fixed f)) ∙ h)
 closes_at HeaderEntity s t h = closes_header (ends_header (length s.header) Keyword (codes "ENDSEC")) (names_header_entity (length s.header) Keyword (codes "ENDSEC")) s (record s { owner = owner.Header; keyword = codes "ENDSEC" }) t h
-closes_at InstanceAt s t h = (refl, ap (λ (r : Reader). r.instances) (same_reader (record s { place = Done }) t h))
+closes_at InstanceAt s t h = (refl, ap (λ (r : Reader). r.instances) (same_reader (record (ends_section s) { place = Done }) t h))
+closes_at SectionAt s t h = no_reader unexpected t h
+closes_at NextSection s t h = no_reader unexpected t h
+closes_at SectionParams s t h = no_reader unexpected t h
 closes_at OwnList s t h = no_reader unexpected t h
 closes_at FirstParam s t h = no_reader unexpected t h
 closes_at NextParam s t h = no_reader unexpected t h
@@ -232,9 +250,10 @@ paren_word t v text c e = ap (λ u. word u v) e ∙ ap (word LeftParen) (subst (
 -- a number of the instances so far
 number_taken : (ws : List Word) (s : Reader) (n : ℕ) → AllByRecursion IsSpelled ws → run MAX_OPEN_LISTS start ws ≡ Ok s → s.place ≡ InstanceAt → has_number n s.instances ≡ true → IsTaken n ws
 number_taken ws s n spelled h e among =
-    let closed : run MAX_OPEN_LISTS s closing_words ≡ Ok (record s { place = Done }) = ap (λ p. run MAX_OPEN_LISTS (record s { place = p }) closing_words) e in
-    let whole = whole_is_file MAX_OPEN_LISTS (omega arith) (ws ++ closing_words) (record s { place = Done }) (join_all IsSpelled ws closing_words spelled closing_spelled) (joined_ran MAX_OPEN_LISTS ws closing_words start s _ h closed) refl in
-    (content s, whole.0, whole.1, has_number-true n s.instances among)
+    let done = record (ends_section s) { place = Done } in
+    let closed : run MAX_OPEN_LISTS s closing_words ≡ Ok done = ap (λ p. run MAX_OPEN_LISTS (record s { place = p }) closing_words) e in
+    let whole = whole_is_file MAX_OPEN_LISTS (omega arith) (ws ++ closing_words) done (join_all IsSpelled ws closing_words spelled closing_spelled) (joined_ran MAX_OPEN_LISTS ws closing_words start s _ h closed) refl in
+    (content done, whole.0, whole.1, has_number-true n s.instances among)
 
 abbrev pub TwiceSaid : List Word → Token → List ℕ → ℕ → Type 0
 TwiceSaid ws t v n = (word t v ≡ mark (Number n)) × IsTaken n ws

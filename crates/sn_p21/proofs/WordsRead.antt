@@ -9,7 +9,7 @@ use Rattle.sn_lex.specs.declared.token.Span.{Span}
 use Rattle.sn_lex.specs.declared.token.Token.{Token}
 use Rattle.sn_lex.specs.declared.token.Token.TheVariants.{End}
 use Rattle.sn_p21.specs.declared.grammar.place.Place.{Place}
-use Rattle.sn_p21.specs.declared.grammar.place.Place.TheVariants.{Fixed as FixedAt, HeaderEntity, OwnList, FirstParam, NextParam, AfterParam, TypedList, Instance as InstanceAt, Body, FirstPart, NextPart, Done}
+use Rattle.sn_p21.specs.declared.grammar.place.Place.TheVariants.{Fixed as FixedAt, HeaderEntity, OwnList, FirstParam, NextParam, AfterParam, TypedList, Section as SectionAt, NextSection, SectionParams, Instance as InstanceAt, Body, FirstPart, NextPart, Done}
 use Rattle.sn_p21.specs.declared.grammar.place.Fixed.{Fixed}
 use Rattle.sn_p21.specs.declared.grammar.place.Fixed.TheVariants as fixed
 use Rattle.sn_p21.specs.declared.grammar.reader.Reader.{Reader}
@@ -35,10 +35,8 @@ not_both e = absurd (let z : false ≡ true = e in cc)
 
 end_fixed : (f : Fixed) (v : List ℕ) → accepts f End v ≡ true → ⊥
 end_fixed fixed.FileStart v e = not_both e
-end_fixed fixed.FileEnd v e = not_both e
 end_fixed fixed.Equals v e = not_both e
 end_fixed fixed.Header v e = not_both e
-end_fixed fixed.Data v e = not_both e
 end_fixed _ v e = not_both e
 
 end_at : (limit : ℕ) (p : Place) (s r : Reader) (v : List ℕ) → Gave (step_at limit p s End v) r → ⊥
@@ -54,6 +52,9 @@ end_at limit FirstParam s r v h = no_reader unexpected r h
 end_at limit NextParam s r v h = no_reader unexpected r h
 end_at limit AfterParam s r v h = no_reader unexpected r h
 end_at limit TypedList s r v h = no_reader unexpected r h
+end_at limit SectionAt s r v h = no_reader unexpected r h
+end_at limit NextSection s r v h = no_reader unexpected r h
+end_at limit SectionParams s r v h = no_reader unexpected r h
 end_at limit InstanceAt s r v h = no_reader unexpected r h
 end_at limit Body s r v h = no_reader unexpected r h
 end_at limit FirstPart s r v h = no_reader unexpected r h

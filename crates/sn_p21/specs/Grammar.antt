@@ -1,7 +1,7 @@
 -- MEANING (ISO 10303-21, WSN of the exchange structure, in this project's profile): the words that a header and instances are
 -- written in.
-use Rattle.std.specs.Prelude.{◌≡◌, ◌≢◌, ℕ, ◌+◌, ◌≤◌, ◌<◌, ◌⊎◌, max, Bool, true, false, List, [], ◌∷◌, ◌++◌, map, length, take, flat_map, codes, IsTrue}
-use Rattle.std.specs.List.{list_all, AllByRecursion}
+use Rattle.std.specs.Prelude.{◌≡◌, ◌≢◌, ℕ, ◌+◌, ◌≤◌, ◌<◌, ◌⊎◌, max, Bool, true, false, List, [], ◌∷◌, ◌++◌, map, length, take, drop, flat_map, codes, Option, Some, None, IsTrue}
+use Rattle.std.specs.List.{list_all, sum_by, AllByRecursion}
 use Rattle.sn_lex.specs.declared.token.Token.TheVariants.{FileStart, FileEnd, Number, Integer, Real, Text, Enumeration, Binary, LeftParen, RightParen, Comma, Semicolon, Equals, Dollar, Star}
 use Rattle.sn_p21.specs.declared.limits.TheConstants.{MAX_OPEN_LISTS}
 use Rattle.sn_p21.specs.declared.file.Param.{Param}
@@ -9,6 +9,7 @@ use Rattle.sn_p21.specs.declared.file.Param.TheOpen.{Param-F}
 use Rattle.sn_p21.specs.declared.file.Param.TheFolds.{fold-Param}
 use Rattle.sn_p21.specs.declared.file.Entity.{Entity}
 use Rattle.sn_p21.specs.declared.file.Instance.{Instance}
+use Rattle.sn_p21.specs.declared.file.Section.{Section}
 use Rattle.sn_p21.specs.Content.{Content}
 use Rattle.sn_p21.specs.Numbers.{NumbersDiffer}
 use Rattle.sn_p21.specs.Word.{Word, IsSpelled, mark, keyword}
@@ -73,22 +74,51 @@ AreDataWords (i ∷ is) ws = (first : List Word) × (rest : List Word) × AreIns
 abbrev pub opening_words : List Word
 opening_words = mark FileStart ∷ mark Semicolon ∷ keyword (codes "HEADER") ∷ mark Semicolon ∷ []
 
-abbrev pub middle_words : List Word
-middle_words = keyword (codes "ENDSEC") ∷ mark Semicolon ∷ keyword (codes "DATA") ∷ mark Semicolon ∷ []
+-- the end of the header, and of each data section
+abbrev pub section_end_words : List Word
+section_end_words = keyword (codes "ENDSEC") ∷ mark Semicolon ∷ []
 
+abbrev pub file_end_words : List Word
+file_end_words = mark FileEnd ∷ mark Semicolon ∷ []
+
+-- the end of the last data section, and of the file
 abbrev pub closing_words : List Word
-closing_words = keyword (codes "ENDSEC") ∷ mark Semicolon ∷ mark FileEnd ∷ mark Semicolon ∷ []
+closing_words = section_end_words ++ file_end_words
 
--- a whole file, around the words of its instances
+-- the word DATA with the parameters of its section, where it has a list of them
+abbrev pub data_entity : List Param → Entity
+data_entity params = record { keyword = codes "DATA"; params = params }
+
+abbrev pub data_words : Option (List Param) → List Word
+data_words None = keyword (codes "DATA") ∷ mark Semicolon ∷ []
+data_words (Some params) = entity_words (data_entity params) ++ mark Semicolon ∷ []
+
+-- a data section, around the words of its instances
+abbrev pub section_words : Section → List Word → List Word
+section_words s instances = data_words s.params ++ instances ++ section_end_words
+
+-- data sections, one behind another; each has the next of the instances, as many as it counts
+abbrev pub AreSectionsWords : List Section → List Instance → List Word → Type 0
+AreSectionsWords [] is ws = ws ≡ []
+AreSectionsWords (s ∷ ss) is ws = (own : List Word) × (rest : List Word) × AreDataWords (take s.count is) own × AreSectionsWords ss (drop s.count is) rest × (ws ≡ section_words s own ++ rest)
+
+-- a whole file, around the words of its data sections
 abbrev pub file_words : List Entity → List Word → List Word
-file_words header instances = opening_words ++ flat_map header_words header ++ middle_words ++ instances ++ closing_words
+file_words header sections = opening_words ++ flat_map header_words header ++ section_end_words ++ sections ++ file_end_words
 
 abbrev pub AreFileWords : Content → List Word → Type 0
-AreFileWords f ws = (instances : List Word) × AreDataWords f.instances instances × (ws ≡ file_words f.header instances)
+AreFileWords f ws = (sections : List Word) × AreSectionsWords f.sections f.instances sections × (ws ≡ file_words f.header sections)
 
 -- the words without parentheses around the one part of a simple instance
+abbrev pub rows_words : List Instance → List Word
+rows_words is = flat_map (λ i. instance_words i.number (parts_words i.parts)) is
+
+abbrev pub plainest_sections : List Section → List Instance → List Word
+plainest_sections [] is = []
+plainest_sections (s ∷ ss) is = section_words s (rows_words (take s.count is)) ++ plainest_sections ss (drop s.count is)
+
 abbrev pub plainest_words : Content → List Word
-plainest_words f = file_words f.header (flat_map (λ i. instance_words i.number (parts_words i.parts)) f.instances)
+plainest_words f = file_words f.header (plainest_sections f.sections f.instances)
 
 -- What the grammar's rules ask of a file beside its words.
 
@@ -131,16 +161,28 @@ IsWhole e = IsTrue (list_all is_whole e.params)
 abbrev pub header_names : List (List ℕ)
 header_names = codes "FILE_DESCRIPTION" ∷ codes "FILE_NAME" ∷ codes "FILE_SCHEMA" ∷ []
 
--- all entities of a file: those of its header, and the parts of its instances
+-- the list of a section is that of its DATA
+abbrev pub data_entities : Option (List Param) → List Entity
+data_entities None = []
+data_entities (Some params) = data_entity params ∷ []
+
+-- all entities of a file: those of its header, its DATA with their lists, and the parts of its instances
 abbrev pub entities_of : Content → List Entity
-entities_of f = f.header ++ flat_map (λ i. i.parts) f.instances
+entities_of f = f.header ++ flat_map (λ s. data_entities s.params) f.sections ++ flat_map (λ i. i.parts) f.instances
+
+-- how many instances the sections have
+abbrev pub counted : List Section → ℕ
+counted ss = sum_by (λ s. s.count) ss
 
 -- The rule of a file, with a limit on the lists and typed parameters that are open at once: its keywords, spellings
 -- and other values have the forms of their tokens, its header begins with the three named entities and none is
--- named as the end of the section, each instance has a part, no two have one number.
+-- named as the end of the section, it has a data section, its sections have all of its instances, each instance has a
+-- part, no two have one number.
 pub record IsFileWithin (limit : ℕ) (f : Content) : Type 0 where
   pub names : take 3 (map (λ e. e.keyword) f.header) ≡ header_names
   pub no_end : AllByRecursion (λ e. e.keyword ≢ codes "ENDSEC") f.header
+  pub section : 0 < length f.sections
+  pub counts : counted f.sections ≡ length f.instances
   pub parts : AllByRecursion (λ i. 0 < length i.parts) f.instances
   pub whole : AllByRecursion IsWhole (entities_of f)
   pub spelled : AllByRecursion IsSpelled (plainest_words f)

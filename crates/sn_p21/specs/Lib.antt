@@ -4,7 +4,7 @@ pub mod FirstFault
 pub mod Grammar
 pub mod NumberText
 pub mod Numbers
+pub mod OneSection
 pub mod PartText
 pub mod Reader
 pub mod Word
-pub mod Written

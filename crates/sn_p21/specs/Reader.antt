@@ -9,8 +9,9 @@ use Rattle.sn_p21.specs.declared.fault.P21Fault.TheVariants as fault
 use Rattle.sn_p21.specs.declared.file.Param.{Param}
 use Rattle.sn_p21.specs.declared.file.Param.TheVariants as param
 use Rattle.sn_p21.specs.declared.file.Entity.{Entity}
+use Rattle.sn_p21.specs.declared.file.Section.{Section}
 use Rattle.sn_p21.specs.declared.grammar.place.Place.{Place}
-use Rattle.sn_p21.specs.declared.grammar.place.Place.TheVariants.{Fixed as FixedAt, HeaderEntity, OwnList, FirstParam, NextParam, AfterParam, TypedList, Instance as InstanceAt, Body, FirstPart, NextPart, Done}
+use Rattle.sn_p21.specs.declared.grammar.place.Place.TheVariants.{Fixed as FixedAt, HeaderEntity, OwnList, FirstParam, NextParam, AfterParam, TypedList, Section as SectionAt, NextSection, SectionParams, Instance as InstanceAt, Body, FirstPart, NextPart, Done}
 use Rattle.sn_p21.specs.declared.grammar.place.Fixed.{Fixed}
 use Rattle.sn_p21.specs.declared.grammar.place.Fixed.TheVariants as fixed
 use Rattle.sn_p21.specs.declared.grammar.place.Owner.{Owner}
@@ -78,16 +79,10 @@ abbrev pub is_file_start : Token → Bool
 is_file_start FileStart = true
 is_file_start _ = false
 
-abbrev pub is_file_end : Token → Bool
-is_file_end FileEnd = true
-is_file_end _ = false
-
 abbrev pub accepts : Fixed → Token → List ℕ → Bool
 accepts fixed.FileStart t value = is_file_start t
-accepts fixed.FileEnd t value = is_file_end t
 accepts fixed.Equals t value = is_equals t
 accepts fixed.Header t value = is_keyword_named t value (codes "HEADER")
-accepts fixed.Data t value = is_keyword_named t value (codes "DATA")
 accepts _ t value = is_semicolon t
 
 abbrev pub place_after : Fixed → Place
@@ -96,13 +91,11 @@ place_after fixed.FileStartEnd = FixedAt fixed.Header
 place_after fixed.Header = FixedAt fixed.HeaderEnd
 place_after fixed.HeaderEnd = HeaderEntity
 place_after fixed.HeaderEntityEnd = HeaderEntity
-place_after fixed.HeaderSectionEnd = FixedAt fixed.Data
-place_after fixed.Data = FixedAt fixed.DataEnd
-place_after fixed.DataEnd = InstanceAt
+place_after fixed.HeaderSectionEnd = SectionAt
+place_after fixed.SectionParamsEnd = InstanceAt
 place_after fixed.Equals = Body
 place_after fixed.InstanceEnd = InstanceAt
-place_after fixed.DataSectionEnd = FixedAt fixed.FileEnd
-place_after fixed.FileEnd = FixedAt fixed.FileEndEnd
+place_after fixed.DataSectionEnd = NextSection
 place_after fixed.FileEndEnd = Done
 
 -- Lists.
@@ -197,12 +190,28 @@ abbrev pub step_typed_list : ℕ → Reader → Token → Step
 step_typed_list limit s LeftParen = opens limit (Typed s.typed) (record s { typed = [] })
 step_typed_list limit s _ = Err unexpected
 
+abbrev pub empty_section : Section
+empty_section = record { params = None; count = 0 }
+
+-- a section of these parameters that has no instance yet
+abbrev pub begins_section : Place → Option (List Param) → Reader → Reader
+begins_section place params s = record s { section = record { params = params; count = 0 }; place = place }
+
+-- a section with one instance more
+abbrev pub counts_one : Section → Section
+counts_one s = record { params = s.params; count = s.count + 1 }
+
+-- the section that was read goes to the others
+abbrev pub ends_section : Reader → Reader
+ends_section s = record s { sections = s.sections ++ s.section ∷ []; section = empty_section; place = FixedAt fixed.DataSectionEnd }
+
 -- an instance with its parts goes to the others
 abbrev pub takes_instance : Reader → List Entity → Step
-takes_instance s parts = cond (has_number s.number s.instances) (Err (twice s.number)) (Ok (record s { instances = s.instances ++ (record { number = s.number; parts = parts }) ∷ []; place = FixedAt fixed.InstanceEnd }))
+takes_instance s parts = cond (has_number s.number s.instances) (Err (twice s.number)) (Ok (record s { section = counts_one s.section; instances = s.instances ++ (record { number = s.number; parts = parts }) ∷ []; place = FixedAt fixed.InstanceEnd }))
 
 abbrev pub takes_entity : Owner → Reader → Entity → Step
 takes_entity owner.Header s e = Ok (record s { header = s.header ++ e ∷ []; place = FixedAt fixed.HeaderEntityEnd })
+takes_entity owner.Section s e = Ok (begins_section (FixedAt fixed.SectionParamsEnd) (Some e.params) s)
 takes_entity owner.Simple s e = takes_instance s (e ∷ [])
 takes_entity owner.Complex s e = Ok (record s { parts = s.parts ++ e ∷ []; place = NextPart })
 
@@ -232,9 +241,21 @@ step_after_param s Comma = cond (is_typed s.list) (Err unexpected) (goes NextPar
 step_after_param s RightParen = closes s
 step_after_param s _ = Err unexpected
 
+-- the DATA of a section
+abbrev pub step_section : Reader → Token → List ℕ → Step
+step_section s t value = cond (is_keyword_named t value (codes "DATA")) (Ok (record (starts_entity owner.Section s value) { place = SectionParams })) (Err unexpected)
+
+abbrev pub step_next_section : Reader → Token → List ℕ → Step
+step_next_section s FileEnd value = goes (FixedAt fixed.FileEndEnd) s
+step_next_section s t value = step_section s t value
+
+abbrev pub step_section_params : Reader → Token → Step
+step_section_params s Semicolon = Ok (begins_section InstanceAt None (record s { keyword = [] }))
+step_section_params s t = step_own_list s t
+
 abbrev pub step_instance : Reader → Token → List ℕ → Step
 step_instance s (Number n) value = cond (has_number n s.instances) (Err (twice n)) (Ok (record s { number = n; place = FixedAt fixed.Equals }))
-step_instance s t value = cond (is_keyword_named t value (codes "ENDSEC")) (goes (FixedAt fixed.DataSectionEnd) s) (Err unexpected)
+step_instance s t value = cond (is_keyword_named t value (codes "ENDSEC")) (Ok (ends_section s)) (Err unexpected)
 
 abbrev pub step_body : Reader → Token → List ℕ → Step
 step_body s Keyword value = Ok (starts_entity owner.Simple s value)
@@ -257,6 +278,9 @@ step_at limit FirstParam s t value = step_first_param limit s t value
 step_at limit NextParam s t value = step_param limit s t value
 step_at limit AfterParam s t value = step_after_param s t
 step_at limit TypedList s t value = step_typed_list limit s t
+step_at limit SectionAt s t value = step_section s t value
+step_at limit NextSection s t value = step_next_section s t value
+step_at limit SectionParams s t value = step_section_params s t
 step_at limit InstanceAt s t value = step_instance s t value
 step_at limit Body s t value = step_body s t value
 step_at limit FirstPart s t value = step_first_part s t value
@@ -289,7 +313,7 @@ Gives (Err fault.Memory) P = Unit {0}
 Gives (Err _) P = ⊥
 
 abbrev pub start : Reader
-start = record { place = FixedAt fixed.FileStart; header = []; instances = []; number = 0; parts = []; owner = owner.Header; keyword = []; typed = []; list = empty_list Plain; outer = [] }
+start = record { place = FixedAt fixed.FileStart; header = []; sections = []; section = empty_section; instances = []; number = 0; parts = []; owner = owner.Header; keyword = []; typed = []; list = empty_list Plain; outer = [] }
 
 -- the whole file was read
 abbrev pub is_done : Reader → Type 0

@@ -1,7 +1,12 @@
-//! A file: its header, and its instances in their order.
+//! A file: its header, its sections, and its instances in their order.
+
+ghost use Rattle.std.specs.Prelude.{◌≡◌, IfOk};
+ghost use Rattle.sn_p21.specs.Grammar.{IsFile};
+ghost use Rattle.sn_p21.specs.OneSection.{in_one_section};
 
 use crate::instances::Instances;
 use sqlite_items::Items;
+use std::alloc::{AllocError, Global};
 use std::marker::Model;
 
 /// Bytes, seen as their list.
@@ -51,10 +56,21 @@ pub struct Instance {
     pub parts: Entities,
 }
 
-/// A file: the entities of its header, and its instances.
+/// A data section: the parameters of its DATA word, and how many of a file's instances are its own.
+#[derive(Debug, Drop)]
+pub struct Section {
+    pub params: Option<Params>,
+    pub count: u32,
+}
+
+/// The data sections of a file, seen as their list. The instances of each stand behind those of the one before it.
+pub type Sections = Items<Section>;
+
+/// A file: the entities of its header, its data sections, and the instances of all of them.
 #[derive(Drop)]
 pub struct File {
     pub header: Entities,
+    pub sections: Sections,
     pub instances: Instances,
 }
 
@@ -69,7 +85,33 @@ impl Model for File {
 
     ghost use Rattle.sn_p21.specs.Grammar.{IsFile};
 
-    ghost view = { λ a. record { header = a.header; instances = a.instances } };
+    ghost view = { λ a. record { header = a.header; sections = a.sections; instances = a.instances } };
 
-    ghost invariant = { λ a. IsFile (record { header = a.header; instances = a.instances }) };
+    ghost invariant = { λ a. IsFile (record { header = a.header; sections = a.sections; instances = a.instances }) };
+}
+
+impl File {
+    /// A file of one section that has no parameters.
+    pub fn in_one_section(
+        alloc: Global,
+        header: Entities,
+        instances: Instances,
+    ) -> Result<File, AllocError>
+        requires { IsFile (in_one_section header instances) }
+        ensures { IfOk result (λ f. f ≡ in_one_section header instances) }
+    {
+        let Ok(count) = u32::try_from(instances.len()) else {
+            return Err(AllocError);
+        };
+        let mut sections = Items::new(alloc);
+        sections.push(Section {
+            params: None,
+            count,
+        })?;
+        Ok(File {
+            header,
+            sections,
+            instances,
+        })
+    }
 }

@@ -1,7 +1,7 @@
 //! Laws of the definitions, for proofs above. The functions do nothing.
 
 ghost use Rattle.sn_p21.specs.NumberText.{NumbersHaveText};
-ghost use Rattle.sn_p21.specs.PartText.{ReadsCanonical};
+ghost use Rattle.sn_p21.specs.PartText.{InstancesAreSpelled, ReadsCanonical};
 
 use sn_lex::reads_written;
 
@@ -11,6 +11,11 @@ pub fn reads_canonical()
 {
     reads_written();
 }
+
+/// The number, the keywords and the values of each instance of a file have the forms of their tokens.
+pub fn instances_are_spelled()
+    ensures { InstancesAreSpelled }
+{}
 
 /// Each integer and each real of a part text is the text of a number.
 pub fn numbers_have_text()

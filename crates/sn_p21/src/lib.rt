@@ -11,9 +11,9 @@ mod read;
 mod write;
 
 pub use fault::P21Fault;
-pub use file::{Bytes, Entities, Entity, File, Instance, Param, Params};
+pub use file::{Bytes, Entities, Entity, File, Instance, Param, Params, Section, Sections};
 pub use instances::Instances;
-pub use laws::{numbers_have_text, reads_canonical};
+pub use laws::{instances_are_spelled, numbers_have_text, reads_canonical};
 pub use limits::MAX_OPEN_LISTS;
 pub use read::{one_fault, one_file, read_file};
 pub use write::{write_file, write_instances};

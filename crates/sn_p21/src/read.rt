@@ -47,8 +47,8 @@ fn is_end(token: Token) -> bool
 
 /// The file that was read, at the end of the text.
 fn finish(reader: Reader, at: usize) -> Result<File, P21Fault>
-    requires { is_done reader → IsFile (record { header = reader.header; instances = reader.instances }) }
-    ensures done { IfOk result (λ f. is_done reader × (f ≡ record { header = reader.header; instances = reader.instances })) }
+    requires { is_done reader → IsFile (record { header = reader.header; sections = reader.sections; instances = reader.instances }) }
+    ensures done { IfOk result (λ f. is_done reader × (f ≡ record { header = reader.header; sections = reader.sections; instances = reader.instances })) }
     ensures refused { IfErr result (λ e. (is_done reader → ⊥) × (e ≡ P21Fault.Unexpected at)) }
 {
     if !reader.is_done() {
@@ -56,6 +56,7 @@ fn finish(reader: Reader, at: usize) -> Result<File, P21Fault>
     }
     Ok(File {
         header: reader.header,
+        sections: reader.sections,
         instances: reader.instances,
     })
 }

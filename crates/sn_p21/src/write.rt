@@ -1,13 +1,12 @@
 //! Writing the canonical text of a file.
 
-ghost use Rattle.std.specs.Prelude.{◌≡◌, ◌++◌, ◌∷◌, [], IfOk, OnOk, decimal, map, flat_map};
+ghost use Rattle.std.specs.Prelude.{◌≡◌, ◌++◌, ◌∷◌, ◌-◌, ◌≤◌, [], length, take, drop, IfOk, OnOk, decimal, map, flat_map};
 ghost use Rattle.sn_lex.specs.Form.{doubled};
 ghost use Rattle.sn_p21.specs.Canonical.{canonical_text, words_text};
-ghost use Rattle.sn_p21.specs.Grammar.{param_words, list_words, entity_words, instance_words, parts_words, header_words};
+ghost use Rattle.sn_p21.specs.Grammar.{param_words, list_words, entity_words, instance_words, parts_words, header_words, data_words, section_words, plainest_sections, counted, rows_words};
 ghost use Rattle.sn_p21.specs.PartText.{IsPartText};
-ghost use Rattle.sn_p21.specs.Written.{rows_words};
 
-use crate::file::{Bytes, Entity, File, Instance, Param};
+use crate::file::{Bytes, Entity, File, Instance, Param, Params, Section};
 use crate::instances::Instances;
 use crate::laws::reads_canonical;
 use itoa::Buffer;
@@ -24,9 +23,9 @@ pub fn write_file(alloc: Global, f: &File) -> Result<Bytes, Memory>
     let mut out = Vec::new(alloc);
     put(&mut out, b"ISO-10303-21;\nHEADER;\n")?;
     put_header(&mut out, f.header.as_slice())?;
-    put(&mut out, b"ENDSEC;\nDATA;\n")?;
-    put_instances(&mut out, &f.instances)?;
-    put(&mut out, b"ENDSEC;\nEND-ISO-10303-21;\n")?;
+    put(&mut out, b"ENDSEC;\n")?;
+    put_sections(&mut out, f.sections.as_slice(), &f.instances)?;
+    put(&mut out, b"END-ISO-10303-21;\n")?;
     Ok(Items::from_vec(out))
 }
 
@@ -35,7 +34,7 @@ pub fn write_instances(alloc: Global, instances: &Instances) -> Result<Bytes, Me
     ensures { IfOk result (λ written. written ≡ words_text (rows_words instances.now)) }
 {
     let mut out = Vec::new(alloc);
-    put_instances(&mut out, instances)?;
+    put_rows(&mut out, instances, 0, instances.len())?;
     Ok(Items::from_vec(out))
 }
 
@@ -56,10 +55,64 @@ fn put_header(out: &mut Vec<u8>, header: &[Entity]) -> Result<(), Memory>
     Ok(())
 }
 
-fn put_instances(out: &mut Vec<u8>, instances: &Instances) -> Result<(), Memory>
-    ensures { OnOk result (out.new.items ≡ out.old.items ++ words_text (rows_words instances.now)) }
+/// The sections of these instances.
+fn put_sections(
+    out: &mut Vec<u8>,
+    sections: &[Section],
+    instances: &Instances,
+) -> Result<(), Memory>
+    requires { counted sections.now ≡ length instances.now }
+    ensures { OnOk result (out.new.items ≡ out.old.items ++ words_text (plainest_sections sections.now instances.now)) }
 {
-    for place in 0..instances.len() {
+    let count = instances.len();
+    let mut left = count;
+    for section in sections {
+        let first = count - left;
+        left -= section.count as usize;
+        put_section(out, section, instances, first, count - left)?;
+    }
+    Ok(())
+}
+
+/// A section whose instances are those from the first place to the end, this one not counted.
+fn put_section(
+    out: &mut Vec<u8>,
+    section: &Section,
+    instances: &Instances,
+    first: usize,
+    end: usize,
+) -> Result<(), Memory>
+    requires { end ≤ length instances.now }
+    ensures { OnOk result (out.new.items ≡ out.old.items ++ words_text (section_words section.now (rows_words (take (end - first) (drop first instances.now))))) }
+{
+    put_data(out, &section.params)?;
+    put_rows(out, instances, first, end)?;
+    put(out, b"ENDSEC;\n")
+}
+
+fn put_data(out: &mut Vec<u8>, params: &Option<Params>) -> Result<(), Memory>
+    ensures { OnOk result (out.new.items ≡ out.old.items ++ words_text (data_words params.now)) }
+{
+    match params {
+        None => put(out, b"DATA;\n"),
+        Some(params) => {
+            put(out, b"DATA")?;
+            put_list(out, params.as_slice())?;
+            put(out, b";\n")
+        }
+    }
+}
+
+fn put_rows(
+    out: &mut Vec<u8>,
+    instances: &Instances,
+    first: usize,
+    end: usize,
+) -> Result<(), Memory>
+    requires { end ≤ length instances.now }
+    ensures { OnOk result (out.new.items ≡ out.old.items ++ words_text (rows_words (take (end - first) (drop first instances.now)))) }
+{
+    for place in first..end {
         if let Some(instance) = instances.at(place) {
             put_instance(out, instance)?;
         }

@@ -198,6 +198,116 @@ fn texts_are_written(rt: HostRuntime) -> Result<(), Fail> {
     Ok(())
 }
 
+/// Data sections, and the lines in which they are written.
+const SECTIONS: &[(&str, &str)] = &[
+    ("DATA;ENDSEC;", "DATA;\nENDSEC;\n"),
+    (
+        "DATA;ENDSEC;DATA();ENDSEC;",
+        "DATA;\nENDSEC;\nDATA();\nENDSEC;\n",
+    ),
+    (
+        "DATA ( 'a' , ( ) ) ; #2=A(#1); #3=(A()) ; ENDSEC ; DATA('b',('S'));#1=B();ENDSEC;",
+        "DATA('a',());\n#2=A(#1);\n#3=A();\nENDSEC;\nDATA('b',('S'));\n#1=B();\nENDSEC;\n",
+    ),
+    (
+        "DATA;#1=A();ENDSEC;DATA;ENDSEC;DATA(T(#9));#2=A();#3=A();ENDSEC;",
+        "DATA;\n#1=A();\nENDSEC;\nDATA;\nENDSEC;\nDATA(T(#9));\n#2=A();\n#3=A();\nENDSEC;\n",
+    ),
+    (DEEP_SECTION, DEEP_SECTION_LINES),
+];
+
+/// A section whose list has 64 lists open.
+const DEEP_SECTION: &str = concat!(
+    "DATA((((((((((((((((((((((((((((((((((((((((((((((((((((((((((((((((",
+    "))))))))))))))))))))))))))))))))))))))))))))))))))))))))))))))));ENDSEC;"
+);
+
+const DEEP_SECTION_LINES: &str = concat!(
+    "DATA((((((((((((((((((((((((((((((((((((((((((((((((((((((((((((((((",
+    "))))))))))))))))))))))))))))))))))))))))))))))))))))))))))))))));\nENDSEC;\n"
+);
+
+#[test]
+fn sections_are_written(rt: HostRuntime) -> Result<(), Fail> {
+    for (sections, lines) in SECTIONS {
+        let text = format!(in rt.alloc(); "{OPENING}ENDSEC;{sections}END-ISO-10303-21;")?;
+        let expected =
+            format!(in rt.alloc(); "{CANONICAL_OPENING}ENDSEC;\n{lines}END-ISO-10303-21;\n")?;
+        let canonical = written(rt.alloc(), text.as_bytes())?;
+        assert_eq!(rt; canonical.as_slice(), expected.as_bytes());
+        let again = written(rt.alloc(), canonical.as_slice())?;
+        assert_eq!(rt; again.as_slice(), canonical.as_slice());
+    }
+    Ok(())
+}
+
+/// A sample part up to its first 13 instances, and what follows them.
+const PART: &str = "ISO-10303-21;
+HEADER;
+FILE_DESCRIPTION(('one hole'),'1');
+FILE_NAME('one.stp','2024-01-01',('a'),('b'),'','','');
+FILE_SCHEMA(('MACHINING_SCHEMA','MILLING_SCHEMA'));
+ENDSEC;
+DATA;
+#1=PROJECT('one',#2,(#3),$,$,$);
+#2=WORKPLAN('main',(#4),$,#5,$);
+#3=WORKPIECE('block',$,$,$,$,#6,());
+#4=MACHINING_WORKINGSTEP('hole',#7,#8,#9,$);
+#5=SETUP('setup',$,#7,(#10));
+#6=BLOCK('raw',#11,20.,20.,10.);
+#7=PLANE('security',#12);
+#8=ROUND_HOLE('hole',#3,(#9),#13,#14,#15,$,#16);
+#9=DRILLING($,$,'plunge',$,$,#17,#18,$,$,$,$,$,$,$);
+#10=WORKPIECE_SETUP(#3,#11,$,$,());
+#11=AXIS2_PLACEMENT_3D('origin',#19,$,$);
+#12=AXIS2_PLACEMENT_3D('security',#20,$,$);
+#13=AXIS2_PLACEMENT_3D('hole',#21,$,$);
+";
+
+const PART_REST: &str = "#14=PLANE('depth',#22);
+#15=TOLERANCED_LENGTH_MEASURE(8.,$);
+#16=FLAT_HOLE_BOTTOM();
+#17=CUTTING_TOOL('mill 8',#23,(),80.,$,$);
+#18=MILLING_TECHNOLOGY(0.005,.TCP.,$,-12.,$,.F.,.F.,.F.,$);
+#19=CARTESIAN_POINT('',(0.,0.,0.));
+#20=CARTESIAN_POINT('',(0.,0.,20.));
+#21=CARTESIAN_POINT('',(10.,10.,10.));
+#22=AXIS2_PLACEMENT_3D('depth',#24,$,$);
+#23=ENDMILL(#25,4,.RIGHT.,.F.,$,$);
+#24=CARTESIAN_POINT('',(0.,0.,-6.));
+#25=MILLING_TOOL_DIMENSION(8.,$,$,20.,0.,$,$);
+ENDSEC;
+END-ISO-10303-21;
+";
+
+/// How many instances each of the sections of the text has.
+fn section_counts(alloc: Global, text: &[u8]) -> Result<Vec<u32>, Fail> {
+    let Ok(file) = read_file(alloc, text) else {
+        return Err(Fail::from("not read"));
+    };
+    let mut counts = Vec::new(alloc);
+    for section in file.sections.as_slice() {
+        counts.push(section.count)?;
+    }
+    Ok(counts)
+}
+
+#[test]
+fn a_part_of_two_sections(rt: HostRuntime) -> Result<(), Fail> {
+    let between = "ENDSEC;\nDATA('b',('S'));\n";
+    let text = format!(in rt.alloc(); "{PART}{between}{PART_REST}")?;
+    assert_eq!(rt;
+        section_counts(rt.alloc(), text.as_bytes())?.as_slice(),
+        [13, 12].as_slice()
+    );
+    assert_eq!(rt; written(rt.alloc(), text.as_bytes())?.as_slice(), text.as_bytes());
+    let front = format!(in rt.alloc(); "{PART}{between}")?;
+    let again = format!(in rt.alloc(); "#1=PROJECT('one',#2,(#3),$,$,$);{PART_REST}")?;
+    let expected = format!(in rt.alloc(); "Twice(1, {})", front.len())?;
+    assert_eq!(rt; told(rt.alloc(), &front, &again)?.as_str(), expected.as_str());
+    Ok(())
+}
+
 /// A text up to its instances, of 77 bytes.
 const FRONT: &str = "ISO-10303-21;HEADER;FILE_DESCRIPTION();FILE_NAME();FILE_SCHEMA();ENDSEC;DATA;";
 
@@ -205,6 +315,12 @@ const FRONT: &str = "ISO-10303-21;HEADER;FILE_DESCRIPTION();FILE_NAME();FILE_SCH
 const DEEP: &str = concat!(
     "ISO-10303-21;HEADER;FILE_DESCRIPTION();FILE_NAME();FILE_SCHEMA();ENDSEC;DATA;",
     "#1=A(((((((((((((((((((((((((((((((((((((((((((((((((((((((((((((((("
+);
+
+/// The same with a list of its first section, up to its 64th list, of 140 bytes.
+const LISTED: &str = concat!(
+    "ISO-10303-21;HEADER;FILE_DESCRIPTION();FILE_NAME();FILE_SCHEMA();ENDSEC;DATA",
+    "(((((((((((((((((((((((((((((((((((((((((((((((((((((((((((((((("
 );
 
 /// The fault of the text of two parts.
@@ -241,6 +357,12 @@ const REFUSED: &[(&str, &str, &str)] = &[
     (FRONT, "#1=A();#01", "Twice(1, 84)"),
     (FRONT, "#1=A();#01=B();", "Twice(1, 84)"),
     (FRONT, "ENDSEC;END-ISO-10303-21; ;", "Unexpected(102)"),
+    (FRONT, "ENDSEC DATA;", "Unexpected(84)"),
+    (FRONT, "ENDSEC;DATA", "Unexpected(88)"),
+    (FRONT, "ENDSEC;ENDSEC;", "Unexpected(84)"),
+    (FRONT, "#1=A();ENDSEC;DATA;#2=A();#1=B();", "Twice(1, 103)"),
+    (LISTED, "(", "TooDeep(140)"),
+    (LISTED, "A(", "TooDeep(141)"),
     (DEEP, "(", "TooDeep(145)"),
     (DEEP, "A(", "TooDeep(146)"),
     (DEEP, "A)", "Unexpected(146)"),

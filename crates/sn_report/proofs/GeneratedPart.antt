@@ -4,6 +4,7 @@ use Rattle.std.specs.Prelude.{if◌then◌else◌}
 use Rattle.sn_p21.specs.declared.file.Entity.{Entity}
 use Rattle.sn_p21.specs.declared.file.Instance.{Instance}
 use Rattle.sn_p21.specs.Content.{Content}
+use Rattle.sn_p21.specs.OneSection.{in_one_section}
 use Rattle.sn_p21.specs.Numbers.{NumbersDiffer}
 use Rattle.sn_p21.specs.Grammar.{IsFile}
 use Rattle.sn_report.specs.declared.feature.Feature.{Feature}
@@ -71,10 +72,10 @@ rows_differ seed rows are = subst NumbersDiffer (sym are) (few_differ (draw_feat
 
 -- these are the header and the instances of the part
 pub part_made : (seed : ℕ) (entities : List Entity) (rows : List Instance) → entities ≡ header → rows ≡ rows_of (draw_features 16 seed)
-    → record { header = entities; instances = rows } ≡ generated seed
+    → in_one_section entities rows ≡ generated seed
 unfolding generated
 part_made seed entities rows named are =
-    ap (λ (es : List Entity). record { header = es; instances = rows }) named ∙ ap (λ (is : List Instance). record { header = header; instances = is }) are
+    ap (λ (es : List Entity). in_one_section es rows) named ∙ ap (λ (is : List Instance). in_one_section header is) are
 
 pub part_is_file : (seed : ℕ) (part : Content) → part ≡ generated seed → IsFile part
 unfolding generated

@@ -1,17 +1,19 @@
 -- How the instances of a slot are written.
-use Rattle.std.proofs.Common.{◌≡◌, ℕ, List, [], ◌∷◌, ◌++◌, map, refl, sym, ap, ◌∙◌, append_assoc, append-nil}
+use Rattle.std.proofs.Common.{◌≡◌, ℕ, List, [], ◌∷◌, ◌++◌, length, take, map, flat_map, None, refl, sym, ap, ◌∙◌, append_assoc, append-nil}
 use Rattle.std.specs.Prelude.{codes, decimal}
 use Rattle.std.specs.List.{AllByRecursion}
+use Rattle.std.proofs.Math.Seq.{take-length}
 use Rattle.std.proofs.lemmas.Grind.{flat_map-append}
 use Rattle.sn_lex.specs.Form.{doubled}
 use Rattle.sn_lex.specs.declared.token.Token.TheVariants.{Semicolon}
+use Rattle.sn_p21.specs.declared.file.Entity.{Entity}
 use Rattle.sn_p21.specs.declared.file.Instance.{Instance}
 use Rattle.sn_p21.specs.declared.file.Param.{Param}
 use Rattle.sn_p21.specs.declared.file.Param.TheVariants as param
 use Rattle.sn_p21.specs.Word.{Word, mark, keyword}
 use Rattle.sn_p21.specs.Canonical.{word_text, words_text}
-use Rattle.sn_p21.specs.Grammar.{param_words, list_words, rest_of_list, instance_words, parts_words}
-use Rattle.sn_p21.specs.Written.{rows_words}
+use Rattle.sn_p21.specs.Grammar.{param_words, list_words, rest_of_list, header_words, instance_words, parts_words, rows_words, data_words, opening_words, section_end_words, file_end_words, closing_words, plainest_words}
+use Rattle.sn_p21.specs.OneSection.{in_one_section}
 use Rattle.sn_report.specs.Generated.{to, none, simple}
 use Rattle.sn_report.proofs.Layers.{real_word, text_word, ref_word, absent_word, list_has_words}
 
@@ -131,3 +133,15 @@ behind frame end common rest lines are =
     ∙ flat_map-append word_text (rows_words common) (rows_words rest)
     ∙ ap (λ (t : List ℕ). words_text (rows_words common) ++ t) are)
     ∙ sym (append_assoc (words_text frame) (words_text (rows_words common)) lines))
+
+-- the words before the instances of a file of one section
+abbrev pub frame_words : List Entity → List Word
+frame_words header = opening_words ++ flat_map header_words header ++ section_end_words ++ data_words None
+
+section_regrouped : (before data_is rows : List Word) → before ++ (data_is ++ rows ++ section_end_words ++ []) ++ file_end_words ≡ (before ++ data_is) ++ rows ++ closing_words
+section_regrouped before data_is rows = simp (append_assoc, append-nil)
+
+pub one_section_words : (header : List Entity) (is : List Instance) → plainest_words (in_one_section header is) ≡ frame_words header ++ rows_words is ++ closing_words
+one_section_words header is =
+    let before = opening_words ++ flat_map header_words header ++ section_end_words in
+    section_regrouped before (data_words None) (rows_words (take (length is) is)) ∙ ap (λ js. frame_words header ++ rows_words js ++ closing_words) (take-length is)

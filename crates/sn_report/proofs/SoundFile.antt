@@ -1,13 +1,17 @@
 -- A file of the generated header and of sound instances whose numbers differ.
-use Rattle.std.proofs.Common.{◌≡◌, ◌≢◌, ℕ, ◌<◌, true, false, List, [], ◌∷◌, ◌++◌, length, flat_map, codes, refl, sym, ap, ◌∙◌}
+use Rattle.std.proofs.Common.{◌≡◌, ◌≢◌, ℕ, ◌+◌, ◌<◌, true, false, List, [], ◌∷◌, ◌++◌, length, take, flat_map, codes, None, refl, sym, ap, subst, ◌∙◌, arith}
 use Rattle.std.specs.Str.{bytes_eq}
 use Rattle.std.specs.List.{AllByRecursion}
+use Rattle.std.proofs.Math.Seq.{take-length}
+use Rattle.std.proofs.lemmas.List.Sums.{sum_by-cons}
 use Rattle.sn_p21.specs.declared.file.Entity.{Entity}
 use Rattle.sn_p21.specs.declared.file.Instance.{Instance}
+use Rattle.sn_p21.specs.declared.file.Section.{Section}
 use Rattle.sn_p21.specs.declared.limits.TheConstants.{MAX_OPEN_LISTS}
 use Rattle.sn_p21.specs.Word.{IsSpelled}
 use Rattle.sn_p21.specs.Numbers.{NumbersDiffer}
-use Rattle.sn_p21.specs.Grammar.{entity_words, header_words, instance_words, parts_words, opening_words, middle_words, closing_words, IsWhole, IsNestedWithin, IsFile}
+use Rattle.sn_p21.specs.OneSection.{in_one_section}
+use Rattle.sn_p21.specs.Grammar.{entity_words, header_words, instance_words, parts_words, rows_words, plainest_sections, data_words, opening_words, section_end_words, file_end_words, IsWhole, IsNestedWithin, IsFile}
 use Rattle.sn_report.specs.Generated.{texts, description, file_name, schema, header}
 use Rattle.sn_report.proofs.Sound.{AreSpelled, IsSound, join_all, semicolon_spelled, keyword_spelled, text_sound, list_sound, IsSoundEntity, entity_sound, AreSoundInstances}
 
@@ -42,7 +46,7 @@ no_end name differs e = let z : true ≡ false = sym (ap (λ n. bytes_eq n (code
 
 -- The instances.
 
-rows_spelled : (is : List Instance) → AreSoundInstances is → AreSpelled (flat_map (λ i. instance_words i.number (parts_words i.parts)) is)
+rows_spelled : (is : List Instance) → AreSoundInstances is → AreSpelled (rows_words is)
 rows_spelled [] all = tt
 rows_spelled (i ∷ is) all = join_all IsSpelled (instance_words i.number (parts_words i.parts)) _ all.0.spelled (rows_spelled is all.1)
 
@@ -67,25 +71,39 @@ all_are_nested (e ∷ es) all = (all.0.nested, all_are_nested es all.1)
 opening_spelled : AreSpelled opening_words
 opening_spelled = ((codes "ISO-10303-21", (refl, refl)), (semicolon_spelled, (keyword_spelled (codes "HEADER") (refl, refl), (semicolon_spelled, tt))))
 
-middle_spelled : AreSpelled middle_words
-middle_spelled = (keyword_spelled (codes "ENDSEC") (refl, refl), (semicolon_spelled, (keyword_spelled (codes "DATA") (refl, refl), (semicolon_spelled, tt))))
+data_spelled : AreSpelled (data_words None)
+data_spelled = (keyword_spelled (codes "DATA") (refl, refl), (semicolon_spelled, tt))
 
-closing_spelled : AreSpelled closing_words
-closing_spelled = (keyword_spelled (codes "ENDSEC") (refl, refl), (semicolon_spelled, ((codes "END-ISO-10303-21", (refl, refl)), (semicolon_spelled, tt))))
+section_end_spelled : AreSpelled section_end_words
+section_end_spelled = (keyword_spelled (codes "ENDSEC") (refl, refl), (semicolon_spelled, tt))
 
-pub sound_file : (is : List Instance) → AreSoundInstances is → NumbersDiffer is → IsFile (record { header = header; instances = is })
+file_end_spelled : AreSpelled file_end_words
+file_end_spelled = ((codes "END-ISO-10303-21", (refl, refl)), (semicolon_spelled, tt))
+
+-- the one section of these instances
+section_spelled : (is : List Instance) → AreSoundInstances is → AreSpelled (plainest_sections ((record { params = None; count = length is }) ∷ []) is)
+section_spelled is all =
+    let rows = subst (λ js. AreSpelled (rows_words js)) (sym (take-length is)) (rows_spelled is all) in
+    let begun = join_all IsSpelled (data_words None) (rows_words (take (length is) is)) data_spelled rows in
+    join_all IsSpelled (data_words None ++ rows_words (take (length is) is) ++ section_end_words) [] (join_all IsSpelled (data_words None ++ rows_words (take (length is) is)) section_end_words begun section_end_spelled) tt
+
+pub sound_file : (is : List Instance) → AreSoundInstances is → NumbersDiffer is → IsFile (in_one_section header is)
 sound_file is all differ =
     let h = flat_map header_words header in
-    let rows = flat_map (λ (i : Instance). instance_words i.number (parts_words i.parts)) is in
+    let section : Section = record { params = None; count = length is } in
+    let sections = plainest_sections (section ∷ []) is in
     let entities = join_all IsSoundEntity header (flat_map (λ (i : Instance). i.parts) is) header_sound (all_parts is all) in
     let front = join_all IsSpelled opening_words h opening_spelled (header_spelled header header_sound) in
-    let before = join_all IsSpelled (opening_words ++ h) middle_words front middle_spelled in
+    let before = join_all IsSpelled (opening_words ++ h) section_end_words front section_end_spelled in
+    let whole = join_all IsSpelled (opening_words ++ h ++ section_end_words) sections before (section_spelled is all) in
     record {
       names = refl;
       no_end = (no_end (codes "FILE_DESCRIPTION") refl, (no_end (codes "FILE_NAME") refl, (no_end (codes "FILE_SCHEMA") refl, tt)));
+      section = omega arith;
+      counts = sum_by-cons (λ (s : Section). s.count) section [] ∙ (let z : length is + 0 ≡ length is = omega arith in z);
       parts = rows_have_parts is all;
       whole = all_are_whole (header ++ flat_map (λ (i : Instance). i.parts) is) entities;
-      spelled = join_all IsSpelled (opening_words ++ h ++ middle_words ++ rows) closing_words (join_all IsSpelled (opening_words ++ h ++ middle_words) rows before (rows_spelled is all)) closing_spelled;
+      spelled = join_all IsSpelled (opening_words ++ h ++ section_end_words ++ sections) file_end_words whole file_end_spelled;
       differ = differ;
       nested = all_are_nested (header ++ flat_map (λ (i : Instance). i.parts) is) entities;
     }

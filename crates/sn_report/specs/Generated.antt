@@ -2,6 +2,7 @@
 use Rattle.std.specs.Prelude.{ℕ, zero, suc, ◌+◌, ◌*◌, ◌/◌, ◌%◌, ◌^◌, ◌==◌, List, [], ◌∷◌, ◌++◌, codes, decimal, map, replicate, if◌then◌else◌}
 use Prim.Native.String.{String}
 use Rattle.sn_p21.specs.Content.{Content}
+use Rattle.sn_p21.specs.OneSection.{in_one_section}
 use Rattle.sn_p21.specs.declared.file.Entity.{Entity}
 use Rattle.sn_p21.specs.declared.file.Instance.{Instance}
 use Rattle.sn_p21.specs.declared.file.Param.{Param}
@@ -309,7 +310,7 @@ rows_of features = common_instances (steps_from 0 features) ++ instances_from 0 
 
 -- that part
 abbrev pub part_of : List Feature → Content
-part_of features = record { header = header; instances = rows_of features }
+part_of features = in_one_section header (rows_of features)
 
 -- the part of a seed
 unfoldable pub generated : ℕ → Content

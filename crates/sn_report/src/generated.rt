@@ -21,7 +21,7 @@ pub fn make_part(alloc: Global, seed: u32) -> Result<File, Memory>
     let rows = rows_of(alloc, &features)?;
     let header = header(alloc)?;
     let instances = by_number(alloc, rows)?;
-    Ok(File { header, instances })
+    Ok(File::in_one_section(alloc, header, instances)?)
 }
 
 /// The instances of the part of these features.

@@ -41,10 +41,8 @@ pub(crate) fn accepts(fixed: Fixed, token: Token, text: &[u8]) -> bool
 {
     match fixed {
         Fixed::FileStart => matches!(token, Token::FileStart),
-        Fixed::FileEnd => matches!(token, Token::FileEnd),
         Fixed::Equals => matches!(token, Token::Equals),
         Fixed::Header => is_keyword_named(token, text, b"HEADER"),
-        Fixed::Data => is_keyword_named(token, text, b"DATA"),
         _ => matches!(token, Token::Semicolon),
     }
 }
@@ -59,13 +57,11 @@ pub(crate) fn place_after(fixed: Fixed) -> Place
         Fixed::Header => Place::Fixed(Fixed::HeaderEnd),
         Fixed::HeaderEnd => Place::HeaderEntity,
         Fixed::HeaderEntityEnd => Place::HeaderEntity,
-        Fixed::HeaderSectionEnd => Place::Fixed(Fixed::Data),
-        Fixed::Data => Place::Fixed(Fixed::DataEnd),
-        Fixed::DataEnd => Place::Instance,
+        Fixed::HeaderSectionEnd => Place::Section,
+        Fixed::SectionParamsEnd => Place::Instance,
         Fixed::Equals => Place::Body,
         Fixed::InstanceEnd => Place::Instance,
-        Fixed::DataSectionEnd => Place::Fixed(Fixed::FileEnd),
-        Fixed::FileEnd => Place::Fixed(Fixed::FileEndEnd),
+        Fixed::DataSectionEnd => Place::NextSection,
         Fixed::FileEndEnd => Place::Done,
     }
 }

@@ -17,7 +17,13 @@ pub enum Place {
     AfterParam,
     /// The list of a typed parameter, behind its keyword.
     TypedList,
-    /// The number of an instance, or the end of the instances.
+    /// The DATA of the first section.
+    Section,
+    /// Behind a section: the DATA of one more, or the end of the file.
+    NextSection,
+    /// Behind DATA: the list of the section, or the semicolon.
+    SectionParams,
+    /// The number of an instance, or the end of the section.
     Instance,
     /// Behind the equals sign of an instance: its one part, or several between parentheses.
     Body,
@@ -38,19 +44,18 @@ pub enum Fixed {
     HeaderEnd,
     HeaderEntityEnd,
     HeaderSectionEnd,
-    Data,
-    DataEnd,
+    SectionParamsEnd,
     Equals,
     InstanceEnd,
     DataSectionEnd,
-    FileEnd,
     FileEndEnd,
 }
 
-/// Where the entity that is being read will stand.
+/// Where the entity that is being read will stand. The DATA of a section and its list are read as an entity.
 #[derive(Clone, Copy, Debug)]
 pub enum Owner {
     Header,
+    Section,
     Simple,
     Complex,
 }

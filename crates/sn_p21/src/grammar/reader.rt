@@ -6,7 +6,7 @@ ghost use Rattle.sn_p21.specs.Reader.{Steps, Gives, value_of};
 ghost use Rattle.sn_p21.specs.declared.limits.TheConstants.{MAX_OPEN_LISTS};
 
 use crate::fault::P21Fault;
-use crate::file::{Bytes, Entities, Entity, Instance, Param, Params};
+use crate::file::{Bytes, Entities, Entity, Instance, Param, Params, Section, Sections};
 use crate::grammar::fixed::{
     accepts, ends_header, is_keyword_named, names_header_entity, place_after,
 };
@@ -24,6 +24,9 @@ use std::mem;
 pub struct Reader {
     pub place: Place,
     pub header: Entities,
+    /// The sections that are read, and the one that is being read.
+    pub sections: Sections,
+    pub section: Section,
     pub instances: Instances,
     /// The number of the instance that is being read, and its parts so far.
     pub number: u32,
@@ -46,6 +49,8 @@ impl Reader {
         Reader {
             place: Place::Fixed(Fixed::FileStart),
             header: Items::new(alloc),
+            sections: Items::new(alloc),
+            section: empty_section(),
             instances: Instances::new(alloc),
             number: 0,
             parts: Items::new(alloc),
@@ -82,6 +87,9 @@ impl Reader {
             Place::NextParam => self.param(alloc, token, text, at),
             Place::AfterParam => self.after_param(alloc, token, at),
             Place::TypedList => self.typed_list(alloc, token, at),
+            Place::Section => self.section(alloc, token, text, at),
+            Place::NextSection => self.next_section(alloc, token, text, at),
+            Place::SectionParams => self.section_params(alloc, token, at),
             Place::Instance => self.instance(token, text, at),
             Place::Body => self.body(alloc, token, text, at),
             Place::FirstPart => self.first_part(alloc, token, text, at),
@@ -244,20 +252,23 @@ impl Reader {
         ensures { Steps (spec.takes_entity self.old.owner (record self.old { keyword = [] }) (record { keyword = self.old.keyword; params = params })) at result self.new }
     {
         let keyword = mem::replace(&mut self.keyword, Items::new(alloc));
-        let entity = Entity { keyword, params };
         match self.owner {
             Owner::Header => {
-                self.header.push(entity)?;
+                self.header.push(Entity { keyword, params })?;
                 self.place = Place::Fixed(Fixed::HeaderEntityEnd);
+                Ok(())
+            }
+            Owner::Section => {
+                self.begin_section(Some(params), Place::Fixed(Fixed::SectionParamsEnd));
                 Ok(())
             }
             Owner::Simple => {
                 let mut parts = Items::from_vec(Vec::with_capacity(alloc, 1)?);
-                parts.push(entity)?;
+                parts.push(Entity { keyword, params })?;
                 self.take_instance(parts, at)
             }
             Owner::Complex => {
-                self.parts.push(entity)?;
+                self.parts.push(Entity { keyword, params })?;
                 self.place = Place::NextPart;
                 Ok(())
             }
@@ -272,8 +283,66 @@ impl Reader {
         if !self.instances.push(Instance { number, parts })? {
             return Err(P21Fault::Twice(number, at));
         }
+        // There are fewer numbers of instances than a count can hold, so this is never the fault.
+        self.section.count = self.section.count.checked_add(1).ok_or(P21Fault::Memory)?;
         self.place = Place::Fixed(Fixed::InstanceEnd);
         Ok(())
+    }
+
+    fn section(
+        &mut self,
+        alloc: Global,
+        token: Token,
+        text: &[u8],
+        at: usize,
+    ) -> Result<(), P21Fault>
+        ensures { Steps (spec.step_section self.old token (value_of token text.now)) at result self.new }
+    {
+        if !is_keyword_named(token, text, b"DATA") {
+            return Err(P21Fault::Unexpected(at));
+        }
+        self.start_entity(alloc, Owner::Section, text)?;
+        self.place = Place::SectionParams;
+        Ok(())
+    }
+
+    fn next_section(
+        &mut self,
+        alloc: Global,
+        token: Token,
+        text: &[u8],
+        at: usize,
+    ) -> Result<(), P21Fault>
+        ensures { Steps (spec.step_next_section self.old token (value_of token text.now)) at result self.new }
+    {
+        match token {
+            Token::FileEnd => {
+                self.place = Place::Fixed(Fixed::FileEndEnd);
+                Ok(())
+            }
+            _ => self.section(alloc, token, text, at),
+        }
+    }
+
+    fn section_params(&mut self, alloc: Global, token: Token, at: usize) -> Result<(), P21Fault>
+        ensures { Steps (spec.step_section_params self.old token) at result self.new }
+    {
+        match token {
+            Token::Semicolon => {
+                self.keyword = Items::new(alloc);
+                self.begin_section(None, Place::Instance);
+                Ok(())
+            }
+            _ => self.own_list(alloc, token, at),
+        }
+    }
+
+    /// A section of these parameters that has no instance yet.
+    fn begin_section(&mut self, params: Option<Params>, place: Place)
+        ensures { self.new ≡ spec.begins_section place params self.old }
+    {
+        self.section = Section { params, count: 0 };
+        self.place = place;
     }
 
     fn instance(&mut self, token: Token, text: &[u8], at: usize) -> Result<(), P21Fault>
@@ -292,6 +361,8 @@ impl Reader {
                 if !is_keyword_named(token, text, b"ENDSEC") {
                     return Err(P21Fault::Unexpected(at));
                 }
+                let section = mem::replace(&mut self.section, empty_section());
+                self.sections.push(section)?;
                 self.place = Place::Fixed(Fixed::DataSectionEnd);
                 Ok(())
             }
@@ -342,5 +413,14 @@ impl Reader {
             }
             _ => self.first_part(alloc, token, text, at),
         }
+    }
+}
+
+fn empty_section() -> Section
+    ensures { result ≡ spec.empty_section }
+{
+    Section {
+        params: None,
+        count: 0,
     }
 }

@@ -26,4 +26,4 @@ invariant_of-result c =
     let built : ModelContent = record { kept = c.in_ok-kept.kept.entries; project = c.in_ok-project.project } in
     let same = ap (λ (f : Content). f.instances) c.f.view_is in
     let kept = subst (λ is. AreKept is built.kept) (sym same) c.in_ok-kept.ensures in
-    ∣ (c.f.inside.instances, c.f.invariant.differ, file_numbers _ c.f.invariant, record { kept = kept; project = c.in_ok-project.ensures }) ∣₁
+    ∣ (c.f.inside.instances, c.f.invariant.differ, file_numbers c.instances_are_spelled.ensures _ c.f.invariant, record { kept = kept; project = c.in_ok-project.ensures }) ∣₁

@@ -9,12 +9,12 @@ rows_of-requires c = few_drawn c.args.seed c.deref.result.now (c.deref.ensures.v
 pub by_number-requires : goal.by_number-requires
 by_number-requires c = rows_differ c.args.seed _ (c.in_ok-rows.ensures ∙ ap rows_of (c.deref.ensures.value ∙ c.in_ok-features.ensures))
 
-pub invariant_of-result : goal.invariant_of-result
-invariant_of-result c =
+pub in_one_section-requires : goal.in_one_section-requires
+in_one_section-requires c =
     let rows = c.in_ok-rows.ensures ∙ ap rows_of (c.deref.ensures.value ∙ c.in_ok-features.ensures) in
     part_is_file c.args.seed _ (part_made c.args.seed _ _ c.in_ok-header.ensures (c.in_ok-instances.ensures ∙ rows))
 
 pub returns : goal.returns
 returns c =
     let rows = c.in_ok-rows.ensures ∙ ap rows_of (c.deref.ensures.value ∙ c.in_ok-features.ensures) in
-    part_made c.args.seed _ _ c.in_ok-header.ensures (c.in_ok-instances.ensures ∙ rows)
+    c.in_ok-in_one_section.ensures ∙ part_made c.args.seed _ _ c.in_ok-header.ensures (c.in_ok-instances.ensures ∙ rows)

@@ -1,12 +1,11 @@
-use Rattle.std.proofs.Common.{ℕ, [], ◌∷◌, ◌++◌, flat_map}
+use Rattle.std.proofs.Common.{ℕ, [], ◌∷◌, ◌++◌, ap, ◌∙◌}
 use Rattle.std.specs.Prelude.{codes}
 use Rattle.std.specs.Fmt.{digits}
 use Rattle.sn_p21.specs.Canonical.{words_text}
-use Rattle.sn_p21.specs.Grammar.{header_words, opening_words, middle_words, closing_words}
-use Rattle.sn_p21.specs.Written.{rows_words}
+use Rattle.sn_p21.specs.Grammar.{closing_words, rows_words}
 use Rattle.sn_report.specs.declared.feature.Feature.TheVariants.{Slot}
-use Rattle.sn_report.specs.Generated.{placement, instances_of, header, common_instances, steps_from}
-use Rattle.sn_report.proofs.SlotText.{HasLine, HaveLines, of_real, of_text, of_ref, of_none, of_list, of_simple, lines_written, behind}
+use Rattle.sn_report.specs.Generated.{placement, instances_of, header, common_instances, steps_from, rows_of}
+use Rattle.sn_report.proofs.SlotText.{HasLine, HaveLines, of_real, of_text, of_ref, of_none, of_list, of_simple, lines_written, behind, frame_words, one_section_words}
 use Rattle.sn_report.proofs.laws.slots_are_written.Goals as goal
 
 abbrev placed : (n at : ℕ) → HasLine (placement n at)
@@ -50,9 +49,9 @@ lines = (
 pub returns : goal.returns
 unfolding digits
 returns c =
-    let frame = opening_words ++ flat_map header_words header ++ middle_words in
+    let frame = frame_words header in
     let steps = steps_from 0 (Slot 8 3 ∷ []) in (
       words_text frame ++ words_text (rows_words (common_instances steps)),
       words_text closing_words,
-      behind frame closing_words (common_instances steps) (instances_of 0 (Slot 8 3)) _ (lines_written (instances_of 0 (Slot 8 3)) lines),
+      ap words_text (one_section_words header (rows_of (Slot 8 3 ∷ []))) ∙ behind frame closing_words (common_instances steps) (instances_of 0 (Slot 8 3)) _ (lines_written (instances_of 0 (Slot 8 3)) lines),
     )
