@@ -12,30 +12,20 @@ built=crates/stepmill/out/stepmill
 room=$(mktemp -d)
 trap 'rm -rf "$room"' EXIT
 
-# passed DIGEST: what bin/test keeps of a gate that passed on sources of this digest, for the program that stands there.
-passed() {
-  echo "$1 $(sha256sum < "$built")"
-}
-
 digest=$(source_digest)
 case "$*" in
   '')
-    if [ ! -f "$built" ] || [ "$(cat out/gate 2> /dev/null)" != "$(passed "$digest")" ]; then
+    if [ ! -f "$built" ] || [ "$(cat out/gate 2> /dev/null)" != "$(gate_record "$digest")" ]; then
       rt ci
       [ "$digest" == "$(source_digest)" ]
     fi
     ;;
-  --compare | --passed) ;;
+  --compare) ;;
   *)
     echo "tools/release.sh: no words, or --compare" >&2
     exit 2
     ;;
 esac
-if [ "$*" == --passed ]; then
-  mkdir -p out
-  passed "$digest" > out/gate
-  exit
-fi
 kit_strip "$built" "$room/stepmill"
 chmod 755 "$room/stepmill"
 echo "$digest" > "$room/SOURCES"

@@ -58,3 +58,8 @@ kit_strip() {
   kit=$(dirname "$(dirname "$(readlink -f "$(command -v rt)")")")
   (exec -a llvm-strip "$kit/toolchain/bin/clang" --strip-all --remove-section=.comment -o "$2" "$1")
 }
+
+# gate_record DIGEST: what bin/test keeps of a gate that passed on sources of this digest, for the program that it built.
+gate_record() {
+  echo "$1 $(sha256sum < "$here/crates/stepmill/out/stepmill")"
+}
