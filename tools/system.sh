@@ -4,8 +4,10 @@
 #
 #   tools/system.sh [PROGRAM..]      without words: crates/stepmill/out/stepmill
 #
-# The last line is 'N passed, M failed'. The status is 1 where a check failed or a program is not there.
+# The variable CHECKS of the environment names the groups of checks that are run, as in CHECKS='verdicts names'; without it
+# all are. The last line is 'N passed, M failed'. The status is 1 where a check failed or a program is not there.
 set -u
+unset CDPATH
 cd "$(dirname "$0")/.." || exit 1
 sample=$PWD/crates/stepmill/data/one.stp
 sample_text=$PWD/crates/stepmill/stdout
@@ -39,8 +41,8 @@ has_output() {
     program) cmp -s "$sample_text" "$folder/out" ;;
     nothing) [ ! -s "$folder/out" ] ;;
     @*) cmp -s "${1#@}" "$folder/out" ;;
-    ^*) [ "$(head -n 1 "$folder/out")" == "${1#^}" ] ;;
-    *) grep -qxF -- "$1" "$folder/out" ;;
+    's/'* | '/'* | [0-9]*'s/'*) sed "$1" "$sample_text" | cmp -s - "$folder/out" ;;
+    *) printf '%s\n' "$1" | cmp -s - "$folder/out" ;;
   esac
 }
 
@@ -53,14 +55,30 @@ has_errors() {
   fi
 }
 
-# wants NAME STATUS OUTPUT ERRORS: compares what the last run did. OUTPUT is `program`, the text of the sample part's
-# program, or `nothing`, or @FILE, the text of a file, or ^LINE, the first line, or a line that the output has.
+# wants NAME STATUS OUTPUT ERRORS: compares what the last run did, each stream as a whole. OUTPUT is `program`, the text of the
+# sample part's program, or `nothing`, or @FILE, the text of a file, or an edit of sed, the sample's text with it, or one line.
 wants() {
   if [ "$status" -eq "$2" ] && has_output "$3" && has_errors "$4"; then
     passed=$((passed + 1))
   else
     fail "$1: wanted status $2, output: $3, errors: '$4'; came status $status, output of $(wc -c < "$folder/out") bytes," \
       "errors: '$(head -c 200 "$folder/err")'"
+  fi
+}
+
+# has_ends NAME STATUS FIRST LAST COUNT LINE..: the output begins and ends with these lines and has COUNT of them, each of
+# those behind once; the errors are empty.
+has_ends() {
+  local line wrong=
+  [ "$status" -eq "$2" ] && has_errors '' && [ "$(head -n 1 "$folder/out")" == "$3" ] \
+    && [ "$(tail -n 1 "$folder/out")" == "$4" ] && [ "$(wc -l < "$folder/out")" -eq "$5" ] || wrong=1
+  for line in "${@:6}"; do
+    [ "$(grep -cxF -- "$line" "$folder/out")" -eq 1 ] || wrong=1
+  done
+  if [ -z "$wrong" ]; then
+    passed=$((passed + 1))
+  else
+    fail "$1: status $status, $(wc -l < "$folder/out") lines from '$(head -n 1 "$folder/out")' to '$(tail -n 1 "$folder/out")'"
   fi
 }
 
@@ -96,7 +114,7 @@ check_statuses() {
   wants 'a through hole by a tool without a point' 0 program ''
   sed 's/DIMENSION(8\./DIMENSION(1./' "$sample" > "$folder/thin.stp"
   run compile "$folder/thin.stp" --cell 1000
-  wants 'a tool that does not reach all' 7 nothing 'stepmill: uncovered #8 i 10 j 9 z 4000'
+  wants 'a tool that does not reach all' 7 nothing 'stepmill: uncovered #8 i 10 j 9 z 40000'
   run compile "$sample" --cell 2000
   wants 'a coarse grid' 1 nothing 'stepmill: part: #8 too small for the grid'
   run
@@ -123,49 +141,49 @@ check_limits() {
   run compile "$sample" --cell 20
   wants 'the least pitch' 0 program ''
   compile_changed 2000 "${hole}16./" "${tool}16./"
-  wants 'the greatest pitch' 0 'G1 Z4.000' ''
+  wants 'the greatest pitch' 0 program ''
   compile_changed 1000 's/0\.005/1.666666667/'
-  wants 'the greatest feed' 0 'F100000' ''
+  wants 'the greatest feed' 0 's/^F300/F100000/' ''
   compile_changed 1000 's/0\.005/1.66668/'
   wants 'a greater feed' 1 nothing "$part #18 parameter 1 $range"
   compile_changed 1000 's/0\.005/0.00001/'
-  wants 'the least feed' 0 'F1' ''
+  wants 'the least feed' 0 's/^F300/F1/' ''
   compile_changed 1000 's/0\.005/0.000008/'
   wants 'no feed' 1 nothing "$part #18 parameter 1 $range"
   compile_changed 1000 's/-12\./-1666.66667/'
-  wants 'the greatest speed' 0 'S100000 M3' ''
+  wants 'the greatest speed' 0 's/^S720/S100000/' ''
   compile_changed 1000 's/-12\./1666.68/'
   wants 'a greater speed' 1 nothing "$part #18 parameter 4 $range"
   compile_changed 1000 "${hole}200./" "${tool}200./"
-  wants 'the greatest tool' 0 'G1 Z4.000' ''
-  compile_changed 1000 "${hole}200.001/" "${tool}200.001/"
+  wants 'the greatest tool' 0 program ''
+  compile_changed 1000 "${hole}200.0001/" "${tool}200.0001/"
   wants 'a greater tool' 1 nothing "$part #25 parameter 1 $range"
   compile_changed 20 "${hole}0.01/" "${tool}0.01/"
   wants 'the least tool' 1 nothing "$small"
-  compile_changed 20 "${hole}0.009/" "${tool}0.009/"
+  compile_changed 20 "${hole}0.0099/" "${tool}0.0099/"
   wants 'a lesser tool' 1 nothing "$part #25 parameter 1 $range"
   compile_changed 1000 "${security}2000.)/"
-  wants 'the greatest height' 0 'G0 Z2000.000' ''
-  compile_changed 1000 "${security}2000.001)/"
+  wants 'the greatest height' 0 's/Z20\.0/Z2000.0/' ''
+  compile_changed 1000 "${security}2000.0001)/"
   wants 'a greater height' 1 nothing "$part #20 parameter 2 $range"
   compile_changed 1000 "${top}-2000.,10.,10.)/"
   wants 'the least coordinate' 1 nothing "$small"
-  compile_changed 1000 "${top}-2000.001,10.,10.)/"
+  compile_changed 1000 "${top}-2000.0001,10.,10.)/"
   wants 'a lesser coordinate' 1 nothing "$part #21 parameter 2 $range"
   compile_changed 1000 "${raw}20.,20.,2000./" "${security}2000.)/" "${top}10.,10.,2000.)/" "${depth}-80./"
-  wants 'the deepest hole' 0 'G1 Z1920.000' ''
-  compile_changed 1000 "${raw}20.,20.,2000./" "${security}2000.)/" "${top}10.,10.,2000.)/" "${depth}-80.001/"
+  wants 'the deepest hole' 0 '/^G0 Z11/d;s/Z20\.0/Z2000.0/;s/Z4\.0/Z1920.0/' ''
+  compile_changed 1000 "${raw}20.,20.,2000./" "${security}2000.)/" "${top}10.,10.,2000.)/" "${depth}-80.0001/"
   wants 'a deeper hole' 1 nothing "$part #4 has a short tool"
-  compile_changed 2000 "${hole}16./" "${tool}16./" "${raw}1993.999,20.,10./"
-  wants 'a grid up to the greatest coordinate' 0 'G1 Z4.000' ''
+  compile_changed 2000 "${hole}16./" "${tool}16./" "${raw}1993.9999,20.,10./"
+  wants 'a grid up to the greatest coordinate' 0 program ''
   compile_changed 2000 "${hole}16./" "${tool}16./" "${raw}1994.,20.,10./"
   wants 'a grid beyond it' 1 nothing "$part grid too big"
   compile_changed 1000 "${raw}1991.,1991.,10./"
   wants 'the biggest grid' 0 program ''
   compile_changed 1000 "${raw}1992.,1991.,10./"
   wants 'a bigger grid' 1 nothing "$part grid too big"
-  compile_changed 1000 "${security}11.001)/"
-  wants 'a rapid down' 0 'G0 Z11.000' ''
+  compile_changed 1000 "${security}11.0001)/"
+  wants 'a rapid down' 0 's/Z20\.0000/Z11.0001/' ''
 }
 
 # compile_text TEXT: a part of this text.
@@ -217,12 +235,12 @@ check_pocket() {
     's/-6\./-5./' 's/DIMENSION(8\./DIMENSION(7./'
   {
     head -n 9 "$sample_text"
-    printf 'G0 X8.000 Y8.000\nG0 Z11.000\nG1 Z5.000\n'
+    printf 'G0 X8.0000 Y8.0000\nG0 Z11.0000\nG1 Z5.0000\n'
     for y in 8:32 11:8 14:32 17:8 20:32 22:8; do
-      [ "$y" = 8:32 ] || printf 'G1 X%d.000 Y%d.000\n' $((40 - ${y#*:})) "${y%:*}"
-      printf 'G1 X%d.000 Y%d.000\n' "${y#*:}" "${y%:*}"
+      [ "$y" = 8:32 ] || printf 'G1 X%d.0000 Y%d.0000\n' $((40 - ${y#*:})) "${y%:*}"
+      printf 'G1 X%d.0000 Y%d.0000\n' "${y#*:}" "${y%:*}"
     done
-    printf 'G0 Z20.000\n'
+    printf 'G0 Z20.0000\n'
     program_end
   } > "$folder/pocket.ngc"
   wants 'a pocket' 0 "@$folder/pocket.ngc" ''
@@ -241,17 +259,17 @@ check_slot() {
   compile_changed 250 "${slot_edits[@]}"
   {
     head -n 8 "$sample_text"
-    printf 'G0 Z20.000\nG0 X15.000 Y15.000\nG0 Z13.000\nG1 Z10.000\nG1 X40.000 Y15.000\nG1 X55.000 Y35.000\nG0 Z20.000\n'
-    printf 'G0 X15.000 Y15.000\nG0 Z11.000\nG1 Z8.000\nG1 X40.000 Y15.000\nG1 X55.000 Y35.000\nG0 Z20.000\n'
+    printf 'G0 Z20.0000\nG0 X15.0000 Y15.0000\nG0 Z13.0000\nG1 Z10.0000\nG1 X40.0000 Y15.0000\nG1 X55.0000 Y35.0000\nG0 Z20.0000\n'
+    printf 'G0 X15.0000 Y15.0000\nG0 Z11.0000\nG1 Z8.0000\nG1 X40.0000 Y15.0000\nG1 X55.0000 Y35.0000\nG0 Z20.0000\n'
     program_end
   } > "$folder/slot.ngc"
   wants 'a slot' 0 "@$folder/slot.ngc" ''
   cp "$folder/changed.stp" "$folder/slot.stp"
   run verify "$folder/slot.stp" "$folder/slot.ngc"
   wants 'the program of the slot' 0 'yes' ''
-  sed '12s/.*/G1 Z9.000/' "$folder/slot.ngc" > "$folder/changed.ngc"
+  sed '12s/.*/G1 Z9.0000/' "$folder/slot.ngc" > "$folder/changed.ngc"
   run verify "$folder/slot.stp" "$folder/changed.ngc"
-  wants 'a plunge that is too deep for the feed behind it' 6 'no: line 13: too deep at i 61 j 40 z 11000' ''
+  wants 'a plunge that is too deep for the feed behind it' 6 'no: line 13: too deep at i 61 j 40 z 110000' ''
 }
 
 # A drill with a point goes through its hole and comes out of its point at feed.
@@ -261,29 +279,34 @@ check_drill() {
   compile_changed 1000 "${drill[@]}"
   {
     head -n 11 "$sample_text"
-    printf 'G1 Z-4.000\nG1 Z0.000\nG0 Z20.000\n'
+    printf 'G1 Z-4.0000\nG1 Z0.0000\nG0 Z20.0000\n'
     program_end
   } > "$folder/drill.ngc"
   wants 'a drill with a point' 0 "@$folder/drill.ngc" ''
   run verify "$folder/changed.stp" "$folder/drill.ngc" --cell 1000
   wants 'its program' 0 'yes' ''
   compile_changed 1000 's/ENDMILL/TWIST_DRILL/'
-  wants 'a flat bottom by a drill with a point' 7 nothing 'stepmill: uncovered #8 i 10 j 9 z 4000'
+  wants 'a flat bottom by a drill with a point' 7 nothing 'stepmill: uncovered #8 i 10 j 9 z 40000'
   compile_changed 250 "${drill[@]}" "${thin[@]}"
   wants 'a thin drill on a coarse grid' 1 nothing 'stepmill: part: #8 too small for the grid'
   compile_changed 50 "${drill[@]}" "${thin[@]}"
-  wants 'a thin drill on a fine grid' 0 'G1 Z-0.300' ''
+  {
+    head -n 11 "$sample_text"
+    printf 'G1 Z-0.3000\nG1 Z0.0000\nG0 Z20.0000\n'
+    program_end
+  } > "$folder/drill.ngc"
+  wants 'a thin drill on a fine grid' 0 "@$folder/drill.ngc" ''
 }
 
 # A face, a hole, and a pocket that is roughed and finished.
 check_plate() {
   run compile "$plate" --raw "$plate_box"
   cp "$folder/out" "$folder/plate.ngc"
-  wants 'the plate' 0 '(WS #14)' ''
+  has_ends 'the plate' 0 '%' '%' 120 '(T1 #39)' '(T2 #44)' '(WS #10)' '(WS #11)' '(WS #13)' '(WS #14)' M2
   run verify "$plate" "$folder/plate.ngc" --raw "$plate_box"
   wants 'the program of the plate' 0 'yes' ''
   run verify "$plate" "$folder/plate.ngc" --raw 0,0,0,100,60,25
-  wants 'its program for a higher box' 6 'no: line 12: rapid in material at i 0 j 0 z 23000' ''
+  wants 'its program for a higher box' 6 'no: line 12: rapid in material at i 0 j 0 z 230000' ''
   run compile "$plate"
   wants 'the plate without its box' 1 nothing 'stepmill: part: raw box unknown'
 }
@@ -293,15 +316,15 @@ check_reports() {
   run report "$plate" --raw "$plate_box"
   {
     printf 'steps 4\ngrid 441 281\n'
-    printf 'ws 10 tool 1 strokes 15 layers 1 lifts 1 cells 193282000\n'
-    printf 'ws 11 tool 2 strokes 1 layers 1 lifts 1 cells 25140000\n'
-    printf 'ws 13 tool 1 strokes 8 layers 2 lifts 2 cells 152137500\n'
-    printf 'ws 14 tool 1 strokes 7 layers 1 lifts 1 cells 19262500\n'
+    printf 'ws 10 tool 1 strokes 15 layers 1 lifts 1 cells 1932820000\n'
+    printf 'ws 11 tool 2 strokes 1 layers 1 lifts 1 cells 251400000\n'
+    printf 'ws 13 tool 1 strokes 8 layers 2 lifts 2 cells 1521375000\n'
+    printf 'ws 14 tool 1 strokes 7 layers 1 lifts 1 cells 192625000\n'
   } > "$folder/plate.txt"
   wants 'the counts of the plate' 0 "@$folder/plate.txt" ''
   run report "$plate"
   wants 'the counts of the plate without its box' 1 nothing 'stepmill: part: raw box unknown'
-  printf 'steps 1\ngrid 29 29\nws 4 tool 1 strokes 1 layers 1 lifts 1 cells 294000\n' > "$folder/sample.txt"
+  printf 'steps 1\ngrid 29 29\nws 4 tool 1 strokes 1 layers 1 lifts 1 cells 2940000\n' > "$folder/sample.txt"
   run report "$sample" --cell 1000
   wants 'the counts of the sample part' 0 "@$folder/sample.txt" ''
   timeout 120 "$program" report /dev/stdin --cell 1000 < "$sample" > "$folder/out" 2> "$folder/err"
@@ -309,9 +332,10 @@ check_reports() {
   wants 'the counts of a part from standard input' 0 "@$folder/sample.txt" ''
   sed 's/(#4)/(#4,#4)/' "$sample" > "$folder/again.stp"
   run report "$folder/again.stp" --cell 1000
-  wants 'the counts of a step that finds nothing left' 0 'ws 4 tool 1 strokes 0 layers 0 lifts 0 cells 0' ''
+  { sed '1s/1/2/' "$folder/sample.txt" && echo 'ws 4 tool 1 strokes 0 layers 0 lifts 0 cells 0'; } > "$folder/again.txt"
+  wants 'the counts of a step that finds nothing left' 0 "@$folder/again.txt" ''
   run report "$folder/thin.stp" --cell 1000
-  wants 'the counts where a tool does not reach all' 7 nothing 'stepmill: uncovered #8 i 10 j 9 z 4000'
+  wants 'the counts where a tool does not reach all' 7 nothing 'stepmill: uncovered #8 i 10 j 9 z 40000'
   run report "$sample" --cell 2000
   wants 'the counts on a coarse grid' 1 nothing 'stepmill: part: #8 too small for the grid'
   run report /dev/null --cell 1000
@@ -324,24 +348,27 @@ check_reports() {
 check_generated() {
   local seed made=$folder/made.stp
   run make 0
-  wants 'the first depth of the part of 0' 0 "#105=CARTESIAN_POINT('',(0.,0.,-3.));" ''
-  wants 'the first length of the part of 0' 0 '#108=TOLERANCED_LENGTH_MEASURE(8.,$);' ''
+  has_ends 'the part of 0' 0 'ISO-10303-21;' 'END-ISO-10303-21;' 216 "#105=CARTESIAN_POINT('',(0.,0.,-3.));" \
+    '#108=TOLERANCED_LENGTH_MEASURE(8.,$);'
   cp "$folder/out" "$made"
   run make 0000
   wants 'a number with leading zeros' 0 "@$made" ''
   timeout 120 "$program" make 0 <&- 2> "$folder/err" | timeout 120 "$program" compile /dev/stdin > "$folder/out" 2>> "$folder/err"
   status=$?
-  wants 'the program of the part of 0' 0 'M2' ''
+  cp "$folder/out" "$folder/made.ngc"
+  run verify "$made" "$folder/made.ngc"
+  wants 'the program of the part of 0' 0 yes ''
   for seed in 0 1 4294967295; do
     run make "$seed"
     cp "$folder/out" "$made"
-    wants "the part of $seed" 0 '^ISO-10303-21;' ''
+    has_ends "the part of $seed" 0 'ISO-10303-21;' 'END-ISO-10303-21;' "$(wc -l < "$made")"
+    run report "$made"
+    cp "$folder/out" "$folder/counts.txt"
     run trial "$seed"
-    cp "$folder/out" "$folder/trial.txt"
-    wants "the counts of the part of $seed" 0 "^steps $(grep -c '=MACHINING_WORKINGSTEP(' "$made")" ''
+    wants "the counts of the part of $seed" 0 "@$folder/counts.txt" ''
+    has_ends "their steps" 0 "steps $(grep -c '=MACHINING_WORKINGSTEP(' "$made")" "$(tail -n 1 "$folder/counts.txt")" \
+      $(($(grep -c '=MACHINING_WORKINGSTEP(' "$made") + 2)) 'grid 681 681'
   done
-  run report "$made"
-  wants 'the counts of the file of the last number' 0 "@$folder/trial.txt" ''
 }
 
 # verdict NAME STATUS LINE EDIT..: the sample part's program, changed by edits of sed, has this verdict.
@@ -358,11 +385,11 @@ check_verdicts() {
   run verify "$sample" "$sample_text" --cell 1000
   wants 'the program of the sample' 0 'yes' ''
   verdict 'another layout' 0 'yes' 's/^G0 Z20/n10 g 0 z +2 0/' 's/F300/(feed) F0300.0/' 's/$/\r/'
-  verdict 'a plunge in rapid' 6 'no: line 12: rapid in material at i 10 j 6 z 4000' '12s/G1/G0/'
-  verdict 'no plunge' 6 'no: #8 uncovered at i 10 j 9 z 4000' '11,12d'
+  verdict 'a plunge in rapid' 6 'no: line 12: rapid in material at i 10 j 6 z 40000' '12s/G1/G0/'
+  verdict 'no plunge' 6 'no: #8 uncovered at i 10 j 9 z 40000' '11,12d'
   verdict 'no end' 6 'no: no end' '/^M2$/d'
-  verdict 'a lost axis' 6 'no: line 9: lost axis' '9s/Z20.000/X10.000/'
-  verdict 'a deeper plunge' 6 'no: line 12: gouge at i 10 j 6 z 3999' '12s/Z4.000/Z3.999/'
+  verdict 'a lost axis' 6 'no: line 9: lost axis' '9s/Z20.0000/X10.0000/'
+  verdict 'a deeper plunge' 6 'no: line 12: gouge at i 10 j 6 z 39999' '12s/Z4.0000/Z3.9999/'
   verdict 'no mark' 6 'no: line 11: feed before a mark' '4d'
   verdict 'another mark' 6 'no: line 4: wrong mark' '4s/4/5/'
   verdict 'a second mark' 6 'no: line 13: wrong mark' '12a (WS #4)'
@@ -379,11 +406,28 @@ check_verdicts() {
   wants 'a missing program' 3 nothing 'stepmill: read fault'
   run verify "$folder/missing.stp" "$sample_text" --cell 1000
   wants 'a missing part' 3 nothing 'stepmill: read fault'
+  run verify "$sample" "$folder" --cell 1000
+  wants 'a folder for the program' 3 nothing 'stepmill: read fault'
+  run verify "$sample" /proc/self/mem --cell 1000
+  wants 'a program whose first read fails' 3 nothing 'stepmill: read fault'
+  run verify /dev/null "$folder/missing.ngc" --cell 1000
+  wants 'a refused part, and a missing program' 1 nothing 'stepmill: part: unexpected at 0'
+  run verify /dev/null "$folder" --cell 1000
+  wants 'a refused part, and a folder for the program' 1 nothing 'stepmill: part: unexpected at 0'
   run verify "$sample" --cell 1000
   wants 'one file' 2 nothing 'stepmill: word 3'
   timeout 120 "$program" verify /dev/stdin "$sample_text" --cell 1000 < "$sample" > "$folder/out" 2> "$folder/err"
   status=$?
   wants 'a part from standard input' 0 'yes' ''
+  timeout 120 "$program" verify /dev/stdin /dev/stdin --cell 1000 < "$sample" > "$folder/out" 2> "$folder/err"
+  status=$?
+  wants 'a file for the part and for the program' 6 'no: line 1: bad number at 1' ''
+  cat "$sample" "$sample_text" | timeout 120 "$program" verify /dev/stdin /dev/stdin --cell 1000 > "$folder/out" 2> "$folder/err"
+  status=$?
+  wants 'one pipe for both, with more behind the part' 1 nothing "stepmill: part: bad byte at $(wc -c < "$sample")"
+  cat "$sample" | timeout 120 "$program" verify /dev/stdin /dev/stdin --cell 1000 > "$folder/out" 2> "$folder/err"
+  status=$?
+  wants 'one pipe for both, which ends behind the part' 6 'no: no end' ''
   for bytes in 1 7; do
     dd if="$sample_text" bs="$bytes" oflag=direct status=none \
       | timeout 120 "$program" verify "$sample" /dev/stdin --cell 1000 > "$folder/out" 2> "$folder/err"
@@ -397,10 +441,8 @@ check_verdicts() {
     | timeout 120 prlimit --as=200000000 "$program" verify "$sample" /dev/stdin --cell 1000 > "$folder/out" 2> "$folder/err"
   status=$?
   wants '67 MB of blanks in constant memory' 6 'no: no end' ''
-  timeout 120 "$program" verify "$sample" "$sample_text" --cell 1000 > /dev/full 2> "$folder/err"
-  status=$?
-  : > "$folder/out"
-  wants 'a verdict on a full device' 4 nothing ''
+  lose_output verify "$sample" "$sample_text" --cell 1000
+  lose_output verify "$sample" /dev/null --cell 1000
 }
 
 # Each front of the sample part has its first fault, as tools/prefix_faults.py computes it by a plain program.
@@ -463,8 +505,8 @@ check_words() {
   run compile "$sample" A=1 --raw 0,0,0,20,20,10 b_2=-0.5 --cell 1000
   wants 'options in another order' 0 program ''
   run compile "$sample" --raw -1,-1,-1,21,21,12.5
-  wants 'a raw box that is given' 0 'G0 Z13.500' ''
-  run compile "$sample" --raw 0,0,0,20,20,20.001
+  wants 'a raw box that is given' 0 's/Z11\.0/Z13.5/' ''
+  run compile "$sample" --raw 0,0,0,20,20,20.0001
   wants 'a raw box over the security plane' 1 nothing 'stepmill: part: security plane below the raw top'
   for word in '0,0,0,20,20' '0,0,0,20,0,10' ' 0,0,0,20,20,10' ''; do
     run compile "$sample" --raw "$word"
@@ -477,7 +519,6 @@ check_words() {
   run compile "$sample" --cell 01000
   wants 'a pitch with a leading zero' 0 program ''
   run compile $'\xff' --cell 1000
-  : > "$folder/err"
   wants 'a word that is no text' 2 nothing ''
 }
 
@@ -590,9 +631,73 @@ check_outputs() {
   status=$?
   cat "$sample_text" "$sample_text" | cmp -s - "$folder/out" && cp "$sample_text" "$folder/out"
   wants 'an output that is added to' 0 program ''
+  check_size
+  check_signals
   env -i "$program" compile "$sample" --cell 1000 < /dev/null > "$folder/out" 2> "$folder/err"
   status=$?
   wants 'no environment' 0 program ''
+}
+
+# A file that may not grow past 4,096 bytes: with the signal of that ignored the write fails, and else it ends the program.
+check_size() {
+  timeout 120 "$program" make 0 > "$folder/whole.stp"
+  head -c 4096 "$folder/whole.stp" > "$folder/front.stp"
+  empty_streams
+  (trap '' XFSZ && ulimit -f 4 && exec timeout 120 "$program" make 0 > "$folder/out" 2> "$folder/err")
+  status=$?
+  wants 'a file that is full' 4 "@$folder/front.stp" ''
+  empty_streams
+  { (ulimit -f 4 && exec "$program" make 0 > "$folder/out" 2> "$folder/err"); } 2> /dev/null
+  status=$?
+  wants 'a file that is full, and its signal' 153 "@$folder/front.stp" ''
+}
+
+# hold: the program of a slot in 1,000 layers, written to a pipe that nothing reads, which it fills. Its process is kept in
+# `work`, and the pipe is open as 8.
+hold() {
+  local wait asleep=0
+  rm -f "$folder/held"
+  mkfifo "$folder/held"
+  exec 8<> "$folder/held"
+  empty_streams
+  timeout 120 "$program" compile "$folder/deep.stp" --cell 1000 > "$folder/whole.ngc" 2> "$folder/err"
+  "$program" compile "$folder/deep.stp" --cell 1000 < /dev/null > "$folder/held" 2> "$folder/err" 8>&- &
+  work=$!
+  # (it sleeps where it waits for room in the pipe)
+  for ((wait = 0; wait < 1200 && asleep < 3; wait++)); do
+    sleep 0.1
+    case $(cut -d' ' -f 3 "/proc/$work/stat") in
+      S) asleep=$((asleep + 1)) ;;
+      *) asleep=0 ;;
+    esac
+  done
+}
+
+# The program is ended, or stopped and let go on, while it writes.
+check_signals() {
+  local reader
+  sed "${slot_edits[@]/#/-e}" "$sample" | sed 's/,2\.,\$,\$,\$);/,0.004,$,$,$);/' > "$folder/deep.stp"
+  hold
+  kill -TERM "$work"
+  { wait "$work"; } 2> /dev/null
+  status=$?
+  exec 9< "$folder/held" 8>&-
+  timeout 120 cat <&9 > "$folder/out"
+  exec 9<&-
+  head -c "$(wc -c < "$folder/out")" "$folder/whole.ngc" > "$folder/front.ngc"
+  [ -s "$folder/out" ] || fail 'nothing is written before the end'
+  wants 'an end while it writes' 143 "@$folder/front.ngc" ''
+  hold
+  kill -STOP "$work"
+  sleep 0.2
+  kill -CONT "$work"
+  timeout 120 cat < "$folder/held" > "$folder/out" 8>&- &
+  reader=$!
+  exec 8>&-
+  wait "$work"
+  status=$?
+  wait "$reader"
+  wants 'a stop while it writes' 0 "@$folder/whole.ngc" ''
 }
 
 check_lengths() {
@@ -693,23 +798,9 @@ for program in "$@"; do
     fail "no program is built at $program"
     continue
   fi
-  check_statuses
-  check_limits
-  check_parts
-  check_pocket
-  check_slot
-  check_drill
-  check_plate
-  check_reports
-  check_generated
-  check_verdicts
-  check_fronts
-  check_words
-  check_names
-  check_chunks
-  check_outputs
-  check_lengths
-  check_memory
+  for group in ${CHECKS:-statuses limits parts pocket slot drill plate reports generated verdicts fronts words names chunks outputs lengths memory}; do
+    "check_$group"
+  done
   rm -rf "${folder:?}"/*
 done
 echo "$passed passed, $failed failed"
