@@ -526,27 +526,13 @@ fn polylines_of_many_points(rt: HostRuntime) -> Result<(), Fail> {
     const POINTS: Change = (57, "POLYLINE('',(POINTS))");
     let rows: [(&[Change], u32); 2] = [
         (
-            &[
-                SLOT,
-                (52, "SLOT('',#3,(),#13,#14,#45,#44,())"),
-                POINTS,
-            ],
+            &[SLOT, (52, "SLOT('',#3,(),#13,#14,#45,#44,())"), POINTS],
             52,
         ),
-        (
-            &[
-                POCKET,
-                (54, "GENERAL_CLOSED_PROFILE($,#57)"),
-                POINTS,
-            ],
-            51,
-        ),
+        (&[POCKET, (54, "GENERAL_CLOSED_PROFILE($,#57)"), POINTS], 51),
     ];
     for (changes, feature) in rows {
-        for (count, fault) in [
-            (1_000, None),
-            (1_001, Some(StepFault::BadOutline(feature))),
-        ] {
+        for (count, fault) in [(1_000, None), (1_001, Some(StepFault::BadOutline(feature)))] {
             let c = part_of_points(rt.alloc(), changes, count)?;
             let ws = first_workingstep(&c).ok_or("no workingstep")?;
             let told = step(rt.alloc(), &c, &Frame::identity(), 10 * PER_MM as i32, ws);

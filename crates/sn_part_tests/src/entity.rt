@@ -416,7 +416,11 @@ fn numbers_end_at_their_borders(rt: HostRuntime) -> Result<(), Fail> {
             match shown(rt.alloc(), &text)? {
                 Ok(found) => assert_eq!(rt; number_at(&found, k), wanted, "{text}"),
                 Err(fault) => {
-                    assert_eq!(rt; (wanted, fault), (None, EntFault::Range(5, place)), "{text}")
+                    assert_eq!(rt;
+                        (wanted, fault),
+                        (None, EntFault::Range(5, place)),
+                        "{text}"
+                    )
                 }
             }
         }
