@@ -211,8 +211,8 @@ def draw_motions(view, runs, tools):
             identity = f"{view.across}{view.up}{index}"
             if is_above and run.tool in tools:
                 width = short(tools[run.tool].diameter * view.scale)
-                view.add(f'<use class="swath" href="#{identity}" stroke-width="{width}"/>')
-            view.add(f'<path class="feed" id="{identity}" d="{"".join(way)}"/>')
+                view.add(f'<g clip-path="url(#raw)"><use class="swath" href="#{identity}" stroke-width="{width}"/></g>')
+            view.add(f'<g class="feed"><path id="{identity}" d="{"".join(way)}"/></g>')
         for motion in plunges:
             x, y = view.place(motion.end).split()
             kind = "plunge" if motion.is_plunge() else "rise"
@@ -237,6 +237,9 @@ def views(low, high, features, runs, tools, security):
     above.rectangle(low[:2], high[:2], 'class="raw"')
     draw_features_above(above, features)
     above.rulers()
+    corner, other = above.place(low).split(), above.place(high).split()
+    size = [short(abs(float(a) - float(b))) for a, b in zip(corner, other)]
+    above.add(f'<clipPath id="raw"><rect x="{corner[0]}" y="{other[1]}" width="{size[0]}" height="{size[1]}"/></clipPath>')
     draw_motions(above, runs, tools)
     above.origin()
     widths = [greatest[axis] - least[axis] for axis in (0, 1)]
@@ -292,6 +295,12 @@ def zero_picture(low, high, security):
     parts.append(f'<path class="hidden" d="{"".join("M" + "L".join(pixel(p) for p in edge) for edge in hidden)}"/>')
     if security is not None:
         parts.append(f'<path class="security" d="M{"L".join(pixel((x, y, security)) for x, y in plane)}Z"/>')
+    sizes = ((x0 + x1) / 2, y0, z0, x1 - x0, 4, 16), (x1, (y0 + y1) / 2, z0, y1 - y0, 8, 14), (x1, y1, (z0 + z1) / 2, z1 - z0, 6, 4)
+    for x, y, z, length, right, down in sizes:
+        u, v = (float(value) for value in pixel((x, y, z)).split())
+        parts.append(f'<text x="{short(u + right)}" y="{short(v + down)}">{millimetres(length)}</text>')
+    u, v = (float(value) for value in pixel(((x0 + x1) / 2, (y0 + y1) / 2, z1)).split())
+    parts.append(f'<text x="{short(u)}" y="{short(v + 4)}" text-anchor="middle">raw top Z{millimetres(z1)}</text>')
     for name, end, colour in zip("XYZ", ends, ("#c1121f", "#2a7f2e", "#1d4ed8")):
         u, v = pixel(end).split()
         parts.append(f'<path class="shaft" stroke="{colour}" d="M{pixel((0, 0, 0))}L{u} {v}"/>')
@@ -299,7 +308,7 @@ def zero_picture(low, high, security):
         parts.append(f'<text x="{short(float(u) + shift[0])}" y="{short(float(v) + shift[1])}" fill="{colour}" class="axis">{name}</text>')
     u, v = pixel((0, 0, 0)).split()
     parts.append(f'<g class="origin" transform="translate({u} {v})"><circle r="6"/><path d="M0 0V-6A6 6 0 0 1 6 0ZM0 0V6A6 6 0 0 1 -6 0Z"/></g>')
-    width = left + (max(us) - min(us)) * scale + 30
+    width = left + (max(us) - min(us)) * scale + 34
     height = top + (max(vs) - min(vs)) * scale + 22
     return (
         f'<svg class="zero-picture" viewBox="0 0 {short(width)} {short(height)}" width="{short(width)}" role="img"'
@@ -329,7 +338,7 @@ def tool_picture(tool, number):
 def cell_pictures(low, high, features, feature, cell):
     """The part from above and the feature alone, both with a cell marked."""
     least, greatest = bounds(low, high, [], None)
-    above = View("X", "Y", least[:2], greatest[:2], min(330 / (greatest[0] - least[0]), 300 / (greatest[1] - least[1])))
+    above = View("X", "Y", least[:2], greatest[:2], min(270 / (greatest[0] - least[0]), 280 / (greatest[1] - least[1])))
     above.rectangle(low[:2], high[:2], 'class="raw"')
     draw_features_above(above, features, feature.number if feature else None)
     above.rulers()
@@ -340,7 +349,7 @@ def cell_pictures(low, high, features, feature, cell):
         box = feature.outline.box()
         room = 0.08 * max(box[2] - box[0], box[3] - box[1])
         lows, highs = (min(box[0], cell[0]) - room, min(box[1], cell[1]) - room), (max(box[2], cell[0]) + room, max(box[3], cell[1]) + room)
-        near = View("X", "Y", lows, highs, min(600 / (highs[0] - lows[0]), 420 / (highs[1] - lows[1])))
+        near = View("X", "Y", lows, highs, min(290 / (highs[0] - lows[0]), 280 / (highs[1] - lows[1])))
         outline_shape(near, feature.outline, 'class="chosen"')
         for boss in feature.bosses:
             outline_shape(near, boss, 'class="boss"', "#fff")

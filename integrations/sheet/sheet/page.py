@@ -136,6 +136,17 @@ def grouped(value, digits=0):
     return f"{value:,.{digits}f}".replace(",", "\u202f")
 
 
+def ranges(numbers):
+    """Rising numbers, with those in a row as one range."""
+    found = []
+    for number in numbers:
+        if found and found[-1][1] == number - 1:
+            found[-1][1] = number
+        else:
+            found.append([number, number])
+    return ", ".join(str(a) if a == b else f"{a}\u2013{b}" for a, b in found)
+
+
 def where_zero_is(low, high):
     """Where zero is with respect to the raw box, in words, one for each axis."""
     words = []
@@ -260,7 +271,7 @@ def accepted(words, part, compiled, counts, verdict):
         "tools": tool_rows(part, program, high),
         "steps": rows,
         "sums": sums,
-        "changes": sum(1 for b, a in zip([0] + [r.tool for r in program.runs if r.motions], [r.tool for r in program.runs if r.motions]) if a != b),
+        "changes": program.changes,
         "above": above,
         "front": front,
         "side": side,
@@ -318,7 +329,7 @@ def page(words):
             shown |= refused(words, part, compiled)
             print(compiled.message, file=sys.stderr)
     room = jinja2.Environment(loader=jinja2.FileSystemLoader(HERE), autoescape=True, trim_blocks=True, lstrip_blocks=True, undefined=jinja2.ChainableUndefined)
-    room.filters |= {"mm": drawing.millimetres, "clock": clock, "grouped": grouped}
+    room.filters |= {"mm": drawing.millimetres, "clock": clock, "grouped": grouped, "ranges": ranges}
     return room.get_template("page.html").render(shown), status
 
 

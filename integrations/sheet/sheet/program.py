@@ -81,6 +81,7 @@ class Program:
         self.content = content
         self.tools = {}
         self.runs = []
+        self.changes = 0
         self._read(content.decode("latin-1").split("\n"))
 
     def _read(self, lines):
@@ -100,6 +101,7 @@ class Program:
                     rapid = value == 0
                 elif letter == "M" and value == 6:
                     place = (None, None, None)
+                    self.changes += 1
                 elif letter == "T":
                     tool = int(value)
                 elif letter == "F":
@@ -112,7 +114,7 @@ class Program:
             if not self.runs:
                 continue
             run = self.runs[-1]
-            if "%" not in line:
+            if line.strip() not in ("", "%"):
                 run.last_line = number
             if moves:
                 end = tuple(words.get(axis, old) for axis, old in zip("XYZ", place))
