@@ -1,5 +1,6 @@
 -- What the top call ends with, where an answer was found and where the command was refused.
-use Rattle.std.proofs.Common.{ℕ, ◌≡◌, ◌≢◌, ◌↔◌, ◌⊎◌, inl, inr, List, [], ◌∷◌, IsTrue, refl, sym, ap, subst, ◌∙◌, arith}
+use Rattle.std.proofs.Common.{ℕ, ◌+◌, ◌<◌, ◌≤◌, ◌≡◌, ◌≢◌, ◌↔◌, ◌⊎◌, inl, inr, List, [], ◌∷◌, IsTrue, refl, sym, ap, subst, ◌∙◌, arith}
+use Rattle.sn_io.specs.Count.{Rises}
 use Rattle.sn_io.specs.Files.{FilesState}
 use Rattle.sn_io.specs.Sink.{SinkState, Takes, TakesFront}
 use Rattle.sn_io.proofs.SinkLemmas.{takes-nothing}
@@ -18,11 +19,11 @@ use Rattle.sn_message.specs.declared.refusal.Refusal.TheVariants as refused
 use Rattle.stepmill.specs.declared.find.Found.{Found}
 use Rattle.stepmill.specs.declared.find.Found.TheVariants as found
 use Rattle.stepmill.specs.declared.status.Status.{Status}
-use Rattle.stepmill.specs.declared.status.Status.TheVariants.{Done, No, WriteFault}
+use Rattle.stepmill.specs.declared.status.Status.TheVariants.{Done, Memory, No, ReadFault, TooLong, WriteFault}
 use Rattle.stepmill.specs.Answer.{Answer, Planned, Judged, Counted, Made, answer_status, answer_text, generated_text, status_of_verdict}
 use Rattle.stepmill.specs.Command.{AsksFor, AsksForCounts, IsMake}
 use Rattle.stepmill.specs.Found.{CanBeWritten, IsFoundFor, found_status, found_text, plan_of}
-use Rattle.stepmill.specs.Outcome.{Answers, Approves, Compiles, Ends, Explains, IsAnswer, IsCaseOf, IsFound, IsJobOf, IsJudged, IsKnown, IsOfDevices, IsPartWith, Rejects, Reports, Stops, status_of}
+use Rattle.stepmill.specs.Outcome.{Answers, Approves, Compiles, Ends, Explains, IsAnswer, IsCaseOf, IsComplete, IsFound, IsJobOf, IsJudged, IsKnown, IsOfDevices, IsOfProgram, IsPartWith, Rejects, Reports, Stops, status_of}
 use Rattle.stepmill.specs.Outcome.IsPartOf.{of_file, of_seed}
 use Rattle.stepmill.specs.Outcome.IsPartWith.{of_file_read, of_seed_made}
 use Rattle.stepmill.specs.Outcome.IsOutcome.{answered, turned_down}
@@ -343,3 +344,93 @@ make_by_devices one words before after refusal status why asked is = elim (refus
       (record { options = asked.options; accepted = asked.accepted; makes = asked.asks; seed_is = refl }) cause)
   | inr device ↦ device_too status refusal is device
 ]
+
+-- Completeness.
+
+memory_or_not : (status : Status) → (status ≡ Memory) ⊎ (status ≢ Memory)
+memory_or_not Memory = inl refl
+memory_or_not status = inr (λ e. absurd (cc))
+
+left_over : {P : Type 0} (status : Status) → status ≢ ReadFault → status ≢ WriteFault → P ⊎ IsOfDevices status → P ⊎ (status ≡ Memory)
+left_over status no_read no_write (inl holds) = inl holds
+left_over status no_read no_write (inr (inl is)) = absurd (no_read is)
+left_over status no_read no_write (inr (inr (inl is))) = absurd (no_write is)
+left_over status no_read no_write (inr (inr (inr is))) = inr is
+
+no_device : (status : Status) → status ≢ ReadFault → status ≢ WriteFault → status ≢ Memory → ¬ IsOfDevices status
+no_device status no_read no_write no_memory (inl is) = no_read is
+no_device status no_read no_write no_memory (inr (inl is)) = no_write is
+no_device status no_read no_write no_memory (inr (inr is)) = no_memory is
+
+-- where neither a reading nor a writing failed
+pub complete : (words : List (List ℕ)) (files : FilesState) (status : Status) (out out_after err err_after : SinkState) → status ≢ ReadFault → status ≢ WriteFault
+    → (IsKnown words files → (job : Job) → IsJobOf words files.given job → (status ≡ Done) ⊎ IsOfDevices status)
+    → (IsTrue files.tells → (job : Job) (program : List ℕ) → IsCaseOf words files.given job program → ((status ≡ Done) ⊎ (status ≡ No)) ⊎ IsOfDevices status)
+    → (AsksFor words Make → (status ≡ Done) ⊎ IsOfDevices status)
+    → (IsKnown words files → ¬ IsOfDevices status → Ends words files.given status out out_after err err_after)
+    → IsComplete words files status out out_after err err_after
+complete words files status out out_after err err_after no_read no_write plans judges makes ends = record {
+  no_read_fault = no_read;
+  no_write_fault = no_write;
+  plans = λ known job asked. left_over status no_read no_write (plans known job asked);
+  judges = λ tells job program asked. left_over status no_read no_write (judges tells job program asked);
+  generates = λ asked. left_over status no_read no_write (makes asked);
+  outcome = λ known. elim (memory_or_not status) [
+    | inl memory ↦ inl memory
+    | inr other ↦ inr (ends known (no_device status no_read no_write other))
+  ];
+}
+
+pub answer_no_read : (status last : Status) (answer : Answer) → last ≡ answer_status answer → (status ≡ last) ⊎ (status ≡ WriteFault) → status ≢ ReadFault
+answer_no_read status last answer same (inl is) fault = elim (as_answered status (answer_status answer) (is ∙ same) (either_status answer)) [
+  | inl done ↦ let e : Done ≡ ReadFault = sym done ∙ fault in absurd (cc)
+  | inr refuses ↦ let e : No ≡ ReadFault = sym refuses ∙ fault in absurd (cc)
+]
+answer_no_read status last answer same (inr is) fault = let e : WriteFault ≡ ReadFault = sym is ∙ fault in absurd (cc)
+
+other_refusal : (refusal : Refusal) → refusal ≢ refused.NotRead → status_of refusal ≢ ReadFault
+other_refusal refused.NotRead other e = other refl
+other_refusal refusal other e = absurd (cc)
+
+pub refusal_no_read : (words : List (List ℕ)) (before after : FilesState) (refusal : Refusal) (status : Status) → Explains words before after refusal
+    → (status ≡ status_of refusal) ⊎ (status ≡ WriteFault) → ¬ Rises before.faults after.faults → status ≢ ReadFault
+refusal_no_read words before after refusal status why (inr is) none fault = let e : WriteFault ≡ ReadFault = sym is ∙ fault in absurd (cc)
+refusal_no_read words before after refused.NotRead status why (inl is) none fault = none why.2
+refusal_no_read words before after refusal status why (inl is) none fault = other_refusal refusal (λ e. cc) (sym is ∙ fault)
+
+-- Once a second file was opened.
+
+pub answer_of_program : (status last : Status) (answer : Answer) → last ≡ answer_status answer → (status ≡ last) ⊎ (status ≡ WriteFault) → IsOfProgram status
+answer_of_program status last answer same (inl is) = inl (as_answered status (answer_status answer) (is ∙ same) (either_status answer))
+answer_of_program status last answer same (inr is) = inr (inr (inr is))
+
+one_opened : (before after : ℕ) → before + 1 < after → after ≤ before + 1 → ⊥
+one_opened before after two one = omega (arith, two, one)
+
+none_opened : (before after : FilesState) → before.opens + 1 < after.opens → after ≡ before → ⊥
+none_opened before after two same = let e : after.opens ≡ before.opens = ap (λ (s : FilesState). s.opens) same in omega (arith, two, e)
+
+pub refusal_of_program : (words : List (List ℕ)) (before after : FilesState) (refusal : Refusal) (status : Status) → Explains words before after refusal
+    → before.opens + 1 < after.opens → (status ≡ status_of refusal) ⊎ (status ≡ WriteFault) → IsOfProgram status
+refusal_of_program words before after refusal status why two (inr is) = inr (inr (inr is))
+refusal_of_program words before after (refused.Word place) status why two (inl is) = absurd (none_opened before after two why.1)
+refusal_of_program words before after refused.NotRead status why two (inl is) = inr (inr (inl is))
+refusal_of_program words before after refused.NoMemory status (inl why) two (inl is) = absurd (one_opened before.opens after.opens two why.1)
+refusal_of_program words before after refused.NoMemory status (inr same) two (inl is) = absurd (none_opened before after two same)
+refusal_of_program words before after refused.TooLong status why two (inl is) = inr (inl is)
+refusal_of_program words before after (refused.Uncovered feature cell) status why two (inl is) = absurd (one_opened before.opens after.opens two why.1.1)
+refusal_of_program words before after refusal status why two (inl is) = absurd (one_opened before.opens after.opens two why.1)
+
+not_memory : (status : Status) → IsOfProgram status → status ≢ Memory
+not_memory status (inl (inl is)) memory = let e : Done ≡ Memory = sym is ∙ memory in absurd (cc)
+not_memory status (inl (inr is)) memory = let e : No ≡ Memory = sym is ∙ memory in absurd (cc)
+not_memory status (inr (inl is)) memory = let e : TooLong ≡ Memory = sym is ∙ memory in absurd (cc)
+not_memory status (inr (inr (inl is))) memory = let e : ReadFault ≡ Memory = sym is ∙ memory in absurd (cc)
+not_memory status (inr (inr (inr is))) memory = let e : WriteFault ≡ Memory = sym is ∙ memory in absurd (cc)
+
+pub without_memory : (status : Status) → IsOfProgram status → ((status ≡ Done) ⊎ (status ≡ No)) ⊎ IsOfDevices status
+    → ((status ≡ Done) ⊎ (status ≡ No)) ⊎ ((status ≡ ReadFault) ⊎ (status ≡ WriteFault))
+without_memory status of (inl is) = inl is
+without_memory status of (inr (inl is)) = inr (inl is)
+without_memory status of (inr (inr (inl is))) = inr (inr is)
+without_memory status of (inr (inr (inr is))) = absurd (not_memory status of is)

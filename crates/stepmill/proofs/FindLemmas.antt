@@ -17,7 +17,7 @@ use Rattle.stepmill.specs.declared.compile.Planned.{Planned}
 use Rattle.sn_message.specs.declared.refusal.Refusal.{Refusal}
 use Rattle.sn_message.specs.declared.refusal.Refusal.TheVariants as refused
 use Rattle.stepmill.specs.declared.reading.TheConstants.{LONGEST}
-use Rattle.stepmill.specs.Command.{IsOfFile, IsOfSeed, IsVerify}
+use Rattle.stepmill.specs.Command.{AsksForPlan, IsOfFile, IsOfSeed, IsVerify}
 use Rattle.stepmill.specs.Found.{AreCountsWith, IsGoodPlan, IsMemoryOr, IsVerdictOf, IsRefusedCase, ReadsBoth, plan_of}
 use Rattle.stepmill.specs.Outcome.{Explains, IsJudged, IsPrepared, IsReadOf, IsRefusedFile, IsReported, ReadsOnce, most_bytes, most_reads}
 use Rattle.stepmill.specs.Outcome.IsPartOf.{of_file, of_seed}
@@ -26,6 +26,7 @@ use Rattle.stepmill.specs.Outcome.IsRefusal.{uncompiled, unjudged}
 use Rattle.stepmill.specs.Part.{IsCompiledPart, IsUncompiledPart}
 use Rattle.stepmill.specs.Reading.{ReadsFile}
 use Rattle.stepmill.proofs.CommandLemmas.{accepted_words_ask, command_of, files_of, names_some, one_request}
+use Rattle.stepmill.proofs.LoadLemmas.{as_told}
 use Rattle.stepmill.proofs.OutcomeLemmas.{part_or_case, tells_of}
 
 -- What the words ask for.
@@ -125,6 +126,18 @@ judged words files part name o verdict command is = record {
 
 -- Why nothing was found.
 
+more : (count n : ℕ) → count ≤ count + n
+more count n = omega arith
+
+plan_of_file : (words : List (List ℕ)) (name : List ℕ) (o : Options) → IsOfFile words name o → AsksForPlan words
+plan_of_file words name o command = elim command.plans [
+  | inl is ↦ inl (record { options = o; accepted = command.accepted; asks = is })
+  | inr is ↦ inr (inl (record { options = o; accepted = command.accepted; asks = is }))
+]
+
+plan_of_seed : (words : List (List ℕ)) (o : Options) → IsOfSeed words o → AsksForPlan words
+plan_of_seed words o command = inr (inr (record { options = o; accepted = command.accepted; asks = command.tries }))
+
 pub explains_file : SaysOneThing → (words : List (List ℕ)) (before after : FilesState) (name : List ℕ) (o : Options) (refusal : Refusal) → IsOfFile words name o
     → after.opens ≡ count_after before.opens 1 → IsRefusedFile before after name (λ bytes. IsUncompiledPart bytes o) refusal → Explains words before after refusal
 explains_file law words before after name o (refused.Word place) command opens why = absurd why
@@ -137,8 +150,18 @@ explains_file law words before after name o refused.TooLong command opens why = 
   (λ known.
       uncompiled (before.given name 0) o (of_file name command refl) (why (tells_of law words name [] o before command.accepted command.file known))),
 )
+explains_file law words before after name o (refused.Uncovered feature cell) command opens why = (
+  plan_of_file words name o command,
+  (o, command.accepted),
+  omega (arith, opens),
+  (λ known.
+      uncompiled (before.given name 0) o (of_file name command refl)
+      (as_told before name (λ bytes. IsUncompiledPart bytes o (refused.Uncovered feature cell))
+      (tells_of law words name [] o before command.accepted command.file known) why)),
+)
 explains_file law words before after name o refusal command opens why = (
   (o, command.accepted),
+  omega (arith, opens),
   (λ known.
       uncompiled (before.given name 0) o (of_file name command refl) (why (tells_of law words name [] o before command.accepted command.file known))),
 )
@@ -154,9 +177,11 @@ explains_verify law words before after part name o refused.TooLong command why =
   (λ _ _ _ _. why.0),
   (λ known. unjudged part name o command (why.1 (tells_of law words part (name ∷ []) o before command.accepted command.file known))),
 )
+explains_verify law words before after part name o (refused.Uncovered feature cell) command why = absurd why
 explains_verify law words before after part name o refusal command why = (
   (o, command.accepted),
-  (λ known. unjudged part name o command (why (tells_of law words part (name ∷ []) o before command.accepted command.file known))),
+  why.0,
+  (λ known. unjudged part name o command (why.1 (tells_of law words part (name ∷ []) o before command.accepted command.file known))),
 )
 
 uncounted : SaysOneThing → (words : List (List ℕ)) (files : FilesState) (o : Options) (refusal : Refusal) → IsOfSeed words o → IsUncompiledPart (generated_text o.seed) o refusal
@@ -169,7 +194,10 @@ uncounted law words files o refused.TooLong command why = (
   (λ part program p verify. absurd (part_or_case law words files.given (generated_text o.seed) part program o p (of_seed command refl) verify)),
   (λ _. uncompiled (generated_text o.seed) o (of_seed command refl) why),
 )
-uncounted law words files o refusal command why = ((o, command.accepted), (λ _. uncompiled (generated_text o.seed) o (of_seed command refl) why))
+uncounted law words files o (refused.Uncovered feature cell) command why =
+    (plan_of_seed words o command, (o, command.accepted), more files.opens 1, (λ _. uncompiled (generated_text o.seed) o (of_seed command refl) why))
+uncounted law words files o refusal command why =
+    ((o, command.accepted), more files.opens 1, (λ _. uncompiled (generated_text o.seed) o (of_seed command refl) why))
 
 pub explains_trial : SaysOneThing → (words : List (List ℕ)) (files : FilesState) (o : Options) (refusal : Refusal) → IsOfSeed words o
     → IsMemoryOr (IsUncompiledPart (generated_text o.seed) o) refusal → Explains words files files refusal
@@ -181,9 +209,6 @@ explains_trial law words files o refusal command (inr why) = uncounted law words
 stays : (count n : ℕ) → count ≤ count_after count n
 stays count n = omega arith
 
-more : (count n : ℕ) → count ≤ count + n
-more count n = omega arith
-
 pub reads_nothing : (words : List (List ℕ)) (files : FilesState) → ReadsOnce words files files
 reads_nothing words files = record {
   refused = λ _. refl;
@@ -191,6 +216,8 @@ reads_nothing words files = record {
   opens = λ o _. more files.opens (length o.files);
   reads = λ o _. more files.reads (most_reads o.command);
   bytes = λ o _. stays files.bytes (most_bytes o.command);
+  part_reads = λ _ _. more files.reads (LONGEST + 2);
+  part_bytes = λ _ _. stays files.bytes (LONGEST + 1);
   no_strange = λ _ o _ _. refl;
 }
 
@@ -217,6 +244,8 @@ reads_once_file law words before after name o command reads = record {
       subst (λ n. after.bytes ≤ count_after before.bytes n)
       (sym (part_bytes o.command command.plans) ∙ ap most_bytes (sym (command_of o p (one_request law words o p command.accepted asked))))
       reads.bytes.within;
+  part_reads = λ _ _. omega (arith, reads.reads);
+  part_bytes = λ _ _. reads.bytes.within;
   no_strange = λ told p asked all.
       reads.no_strange told
       (All-head (λ n. IsTrue (before.has_file n)) name []
@@ -235,6 +264,8 @@ reads_once_verify law words before after part name o command reads = record {
   bytes = λ p asked.
       subst (λ c. after.bytes ≤ count_after before.bytes (most_bytes c)) (sym (command_of o p (one_request law words o p command.accepted asked) ∙ command.verifies))
       reads.bytes;
+  part_reads = reads.part_reads;
+  part_bytes = reads.part_bytes;
   no_strange = λ told p asked all.
       let both = subst (All (λ n. IsTrue (before.has_file n))) (files_of o p (one_request law words o p command.accepted asked) ∙ command.file) all in
       reads.no_strange told (All-head (λ n. IsTrue (before.has_file n)) part (name ∷ []) both)

@@ -9,3 +9,4 @@ pub mod JudgeLemmas
 pub mod FindLemmas
 pub mod VerifyLemmas
 pub mod AnswerLemmas
+pub mod WrittenLemmas

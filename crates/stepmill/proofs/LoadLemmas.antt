@@ -66,6 +66,7 @@ refused_part_whole : (before after : FilesState) (name bytes : List ℕ) (o : Op
 refused_part_whole before after name bytes o (refused.Word place) read why = why
 refused_part_whole before after name bytes o refused.NotRead read why = absurd why
 refused_part_whole before after name bytes o refused.NoMemory read why = tt
+refused_part_whole before after name bytes o (refused.Uncovered feature cell) read why = absurd why
 refused_part_whole before after name bytes o refused.TooLong read why = λ told. longer LONGEST bytes (before.given name 0) (read told) why
 refused_part_whole before after name bytes o refusal read why = λ told. of_whole bytes (before.given name 0) o refusal (read told) (λ e. cc) why
 
@@ -126,6 +127,7 @@ file_uncompiled before after name o (refused.Word place) why = why
 file_uncompiled before after name o refused.NotRead why = why
 file_uncompiled before after name o refused.NoMemory why = why
 file_uncompiled before after name o refused.TooLong why = λ told. inl (why told)
+file_uncompiled before after name o (refused.Uncovered feature cell) why = absurd why.holds
 file_uncompiled before after name o refusal why = λ told. refused_too (before.given name 0) o refusal (why told)
 
 of_job : (before after : FilesState) (name : List ℕ) (o : Options) (job : Job) (refusal : Refusal) → IsReadOf before name (λ bytes. IsSoundPart bytes o job)
@@ -133,6 +135,8 @@ of_job : (before after : FilesState) (name : List ℕ) (o : Options) (job : Job)
 of_job before after name o job (refused.Word place) read why = why read.bytes o read.holds
 of_job before after name o job refused.NotRead read why = absurd (why read.bytes o read.holds)
 of_job before after name o job refused.NoMemory read why = tt
+of_job before after name o job (refused.Uncovered feature cell) read why =
+    read_as before name (λ bytes. IsSoundPart bytes o job) (λ bytes. IsUncompiledPart bytes o (refused.Uncovered feature cell)) (λ bytes sound. why bytes o sound) read
 of_job before after name o job refusal read why = λ told. why (before.given name 0) o (as_told before name (λ bytes. IsSoundPart bytes o job) told read)
 
 pub job_uncompiled : (before after : FilesState) (name : List ℕ) (o : Options) (job : Job) (refusal : Refusal) → IsReadOf before name (λ bytes. IsSoundPart bytes o job)

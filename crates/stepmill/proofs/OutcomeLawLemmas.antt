@@ -203,6 +203,7 @@ word_or_other : (words : List (List ℕ)) (before after : FilesState) (refusal :
     ⊎ ((status_of refusal ≢ BadWords) × (IsAccepted words ⊎ (status_of refusal ≡ Memory)))
 word_or_other words before after (refused.Word place) why = inl (place, refl, why.0)
 word_or_other words before after refused.NoMemory why = inr ((λ e. cc), inr refl)
+word_or_other words before after (refused.Uncovered feature cell) why = inr ((λ e. cc), inl why.1.0)
 word_or_other words before after refusal why = inr ((λ e. cc), inl why.0)
 
 pub bad_words_are_no_command : BadWordsAreNoCommand

@@ -141,4 +141,5 @@ refusal_or_device words before after (refused.Word place) known why = inl (turne
 refusal_or_device words before after refused.NotRead known why = inr (inl refl)
 refusal_or_device words before after refused.NoMemory known why = inr (inr (inr refl))
 refusal_or_device words before after refused.TooLong known why = inl (why.2 known)
-refusal_or_device words before after refusal known why = inl (why.1 known)
+refusal_or_device words before after (refused.Uncovered feature cell) known why = inl (why.1.2 known)
+refusal_or_device words before after refusal known why = inl (why.2 known)

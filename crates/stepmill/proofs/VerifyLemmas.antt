@@ -1,6 +1,6 @@
 -- A verdict on a program for a part, why there is none, and what is read for it.
 use Rattle.std.proofs.Common.{ℕ, ◌≡◌, ◌+◌, ◌≤◌, ◌<◌, inl, inr, List, length, Result, Ok, Err, IfOk, IfErr, refl, subst, ◌∙◌, arith}
-use Rattle.sn_io.specs.Count.{count_after}
+use Rattle.sn_io.specs.Count.{count_after, last_count}
 use Rattle.sn_io.specs.Files.{FilesState}
 use Rattle.sn_open.specs.Verdict.{IsVerdict}
 use Rattle.sn_open.specs.declared.verdict.Verdict.{Verdict}
@@ -56,7 +56,8 @@ part_refused before after part name o refused.NotRead opens long why = why
 part_refused before after part name o refused.NoMemory opens long why = omega (arith, opens)
 part_refused before after part name o refused.TooLong opens long why =
     (record { part = long refl; program = λ again. absurd (omega (arith, opens, again)) }, (λ told. inl (why told)))
-part_refused before after part name o refusal opens long why = why
+part_refused before after part name o (refused.Uncovered feature cell) opens long why = absurd why.holds
+part_refused before after part name o refusal opens long why = (omega (arith, opens), why)
 
 long_later : (before mid after : ℕ) → before ≤ mid → HasRisenBy mid after (LONGEST_PROGRAM + 1)
     → HasRisenBy before after (LONGEST + 1) × HasRisenBy before after (LONGEST_PROGRAM + 1)
@@ -92,11 +93,17 @@ reads_part before after part name reads = record {
   opens = omega (arith, reads.opens);
   reads = omega (arith, reads.reads);
   bytes = omega (arith, reads.bytes.within);
+  part_reads = λ _ _. omega (arith, reads.reads);
+  part_bytes = λ _ _. reads.bytes.within;
   no_strange = λ told has _. reads.no_strange told has;
 }
 
 both_within : (before mid after a b : ℕ) → mid ≤ count_after before a → before ≤ mid → after ≤ count_after mid b → after ≤ count_after before (a + b)
 both_within before mid after a b first stays second = omega arith
+
+-- two openings are counted as two
+opened_twice : (before mid after : ℕ) → mid ≡ count_after before 1 → after ≡ count_after mid 1 → before + 1 < last_count → after ≤ before + 1 → ⊥
+opened_twice before mid after first second few one = omega (arith, first, second, few, one)
 
 pub reads_program : (before mid after : FilesState) (part name : List ℕ) → ReadsFile before mid part (LONGEST + 1) → ReadsFile mid after name (LONGEST_PROGRAM + 1)
     → ReadsBoth before after part name
@@ -104,6 +111,8 @@ reads_program before mid after part name first second = record {
   opens = omega (arith, first.opens, second.opens);
   reads = omega (arith, first.reads, second.reads);
   bytes = both_within before.bytes mid.bytes after.bytes (LONGEST + 1) (LONGEST_PROGRAM + 1) first.bytes.within first.bytes.stays second.bytes.within;
+  part_reads = λ few one. absurd (opened_twice before.opens mid.opens after.opens first.opens second.opens few one);
+  part_bytes = λ few one. absurd (opened_twice before.opens mid.opens after.opens first.opens second.opens few one);
   no_strange = λ told has has_too.
       second.no_strange (first.tells ∙ told) (first.has_file told name ∙ has_too) ∙ first.no_strange told has;
 }

@@ -15,6 +15,10 @@ pub record AsksFor (words : List (List ℕ)) (command : Command) : Type 0 where
 abbrev pub AsksForCounts : List (List ℕ) → Type 0
 AsksForCounts words = AsksFor words Report ⊎ AsksFor words Trial
 
+-- the words ask for the program or for the counts of a part: a part is planned for them
+abbrev pub AsksForPlan : List (List ℕ) → Type 0
+AsksForPlan words = AsksFor words Compile ⊎ AsksForCounts words
+
 -- the words ask for the program or for the counts of the part of a file, with these options
 pub record IsOfFile (words : List (List ℕ)) (part : List ℕ) (o : Options) : Type 0 where
   pub accepted : IsCommand words o
@@ -31,6 +35,12 @@ pub record IsVerify (words : List (List ℕ)) (part program : List ℕ) (o : Opt
   pub accepted : IsCommand words o
   pub verifies : o.command ≡ Verify
   pub file : o.files ≡ part ∷ program ∷ []
+
+-- the options give one pitch, one raw box and the same values: one job comes of a part with either
+pub record HaveOneSetting (o p : Options) : Type 0 where
+  pub pitch : p.pitch ≡ o.pitch
+  pub raw : p.raw ≡ o.raw
+  pub sets : p.sets ≡ o.sets
 
 -- the words ask for the part that is generated from this seed
 pub record IsMake (words : List (List ℕ)) (seed : ℕ) : Type 0 where

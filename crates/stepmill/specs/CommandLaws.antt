@@ -2,6 +2,7 @@
 use Rattle.std.specs.Prelude.{◌≡◌, ◌⊎◌, ℕ, List, [], None}
 use Rattle.sn_words.specs.Command.{IsCommand}
 use Rattle.sn_words.specs.Options.{Options}
+use Rattle.sn_words.specs.declared.limits.TheConstants.{DEFAULT_PITCH}
 use Rattle.sn_words.specs.declared.options.Command.{Command}
 use Rattle.stepmill.specs.Command.{AsksFor, IsMake, IsOfFile, IsOfSeed, IsVerify, NamesNoFile}
 
@@ -18,4 +19,4 @@ OneCommand = (words : List (List ℕ)) (some other : Command) → AsksFor words 
 -- a part that is generated is counted at a pitch of a quarter of a millimetre, with no raw box and no values that are given, and
 -- no file is named for it
 abbrev pub TrialsHaveNoOptions : Type 0
-TrialsHaveNoOptions = (words : List (List ℕ)) (o : Options) → IsOfSeed words o → (o.pitch ≡ 250) × (o.raw ≡ None) × (o.sets ≡ []) × NamesNoFile words
+TrialsHaveNoOptions = (words : List (List ℕ)) (o : Options) → IsOfSeed words o → (o.pitch ≡ DEFAULT_PITCH) × (o.raw ≡ None) × (o.sets ≡ []) × NamesNoFile words

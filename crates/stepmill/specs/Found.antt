@@ -1,7 +1,7 @@
 -- PRIVATE: what is found for a command before anything is written, as the code keeps it, and why nothing was found.
-use Rattle.std.specs.Prelude.{◌≡◌, ◌+◌, ◌≤◌, ◌⊎◌, ℕ, List, [], length, None, IsTrue}
+use Rattle.std.specs.Prelude.{◌≡◌, ◌+◌, ◌≤◌, ◌<◌, ◌⊎◌, ℕ, List, [], length, None, IsTrue}
 use Rattle.sn_geom.specs.declared.tip.Tip.TheVariants.{Unknown}
-use Rattle.sn_io.specs.Count.{count_after, Rises}
+use Rattle.sn_io.specs.Count.{count_after, last_count, Rises}
 use Rattle.sn_io.specs.Files.{FilesState}
 use Rattle.sn_outline.specs.Job.{Job}
 use Rattle.sn_outline.specs.JobRule.{IsJob}
@@ -89,7 +89,9 @@ IsRefusedCase before after part name o refused.NotRead = Rises before.faults aft
 IsRefusedCase before after part name o refused.NoMemory = after.opens ≤ before.opens + 1
 IsRefusedCase before after part name o refused.TooLong =
     IsLongRead before after × (IsTrue before.tells → IsUnjudged (before.given part 0) (before.given name 1) o refused.TooLong)
-IsRefusedCase before after part name o refusal = IsTrue before.tells → IsUnjudged (before.given part 0) (before.given name 1) o refusal
+IsRefusedCase before after part name o (refused.Uncovered feature cell) = ⊥
+IsRefusedCase before after part name o refusal =
+    (after.opens ≤ before.opens + 1) × (IsTrue before.tells → IsUnjudged (before.given part 0) (before.given name 1) o refusal)
 
 -- what is done to the files: each of the two is opened once at the most, and read to its end or until one byte more than its
 -- limit was taken
@@ -97,6 +99,8 @@ pub record ReadsBoth (before after : FilesState) (part name : List ℕ) : Type 0
   pub opens : after.opens ≤ before.opens + 2
   pub reads : after.reads ≤ before.reads + (LONGEST + 2 + (LONGEST_PROGRAM + 2))
   pub bytes : after.bytes ≤ count_after before.bytes (LONGEST + 1 + (LONGEST_PROGRAM + 1))
+  pub part_reads : before.opens + 1 < last_count → after.opens ≤ before.opens + 1 → after.reads ≤ before.reads + (LONGEST + 2)
+  pub part_bytes : before.opens + 1 < last_count → after.opens ≤ before.opens + 1 → after.bytes ≤ count_after before.bytes (LONGEST + 1)
   pub no_strange : IsTrue before.tells → IsTrue (before.has_file part) → IsTrue (before.has_file name) → after.strange_opens ≡ before.strange_opens
 
 -- What is written.

@@ -1,5 +1,5 @@
 -- MEANING: what a command ends with, a status and the texts for the output and for the errors (this project's own).
-use Rattle.std.specs.Prelude.{◌≡◌, ℕ, ◌+◌, ◌≤◌, ◌<◌, ◌⊎◌, min, List, [], length, codes, IsTrue}
+use Rattle.std.specs.Prelude.{◌≡◌, ◌≢◌, ℕ, ◌+◌, ◌≤◌, ◌<◌, ◌⊎◌, min, List, [], length, codes, IsTrue}
 use Rattle.std.specs.List.{All}
 use Rattle.sn_io.specs.Count.{count_after, last_count, Rises}
 use Rattle.sn_io.specs.Files.{FilesState}
@@ -10,9 +10,9 @@ use Rattle.sn_outline.specs.declared.job.StepJob.{StepJob}
 use Rattle.sn_words.specs.Command.{IsAccepted, IsCommand, DepartsAt}
 use Rattle.sn_words.specs.Options.{Options}
 use Rattle.sn_words.specs.declared.options.Command.{Command}
-use Rattle.sn_words.specs.declared.options.Command.TheVariants.{Compile, Verify, Report}
+use Rattle.sn_words.specs.declared.options.Command.TheVariants.{Compile, Verify, Report, Make, Trial}
 use Rattle.stepmill.specs.declared.status.Status.{Status}
-use Rattle.stepmill.specs.declared.status.Status.TheVariants.{PartRefused, BadWords, ReadFault, WriteFault, Memory, Uncovered, TooLong}
+use Rattle.stepmill.specs.declared.status.Status.TheVariants.{Done, PartRefused, BadWords, ReadFault, WriteFault, Memory, No, Uncovered, TooLong}
 use Rattle.sn_message.specs.declared.refusal.Refusal.{Refusal}
 use Rattle.sn_message.specs.declared.refusal.Refusal.TheVariants as refused
 use Rattle.stepmill.specs.declared.reading.TheConstants.{LONGEST, LONGEST_PROGRAM}
@@ -21,7 +21,7 @@ use Rattle.sn_report.specs.Report.{report_text}
 use Rattle.sn_report.specs.declared.counts.Counts.{Counts}
 use Rattle.stepmill.specs.Answer.{Answer, Planned, Judged, Counted, Made, answer_status, answer_text, generated_text}
 use Rattle.stepmill.specs.Part.{IsCompiledPart, IsSoundPart, IsUncompiledPart, IsUnjudged}
-use Rattle.stepmill.specs.Command.{AsksFor, AsksForCounts, IsMake, IsOfFile, IsOfSeed, IsVerify, NamesNoFile}
+use Rattle.stepmill.specs.Command.{AsksFor, AsksForCounts, AsksForPlan, IsMake, IsOfFile, IsOfSeed, IsVerify, NamesNoFile}
 use Rattle.sn_message.specs.RefusalText.{refusal_text}
 use Rattle.sn_open.specs.Good.{Good}
 use Rattle.sn_open.specs.Verdict.{IsVerdict}
@@ -205,6 +205,7 @@ abbrev pub IsRefusedFile : FilesState → FilesState → List ℕ → (List ℕ 
 IsRefusedFile before after name P (refused.Word place) = ⊥
 IsRefusedFile before after name P refused.NotRead = Rises before.faults after.faults
 IsRefusedFile before after name P refused.NoMemory = Unit {0}
+IsRefusedFile before after name P (refused.Uncovered feature cell) = IsReadOf before name (λ bytes. P bytes (refused.Uncovered feature cell))
 IsRefusedFile before after name P refusal = IsTrue before.tells → P (before.given name 0) refusal
 
 -- at least so many bytes were read, or their count stands at its last value
@@ -216,9 +217,14 @@ pub record IsLongRead (before after : FilesState) : Type 0 where
   pub part : HasRisenBy before.bytes after.bytes (LONGEST + 1)
   pub program : before.opens + 1 < after.opens → HasRisenBy before.bytes after.bytes (LONGEST_PROGRAM + 1)
 
+-- The part was refused: no second file was opened for it.
+abbrev pub IsOfPart : List (List ℕ) → FilesState → FilesState → Refusal → Type 0
+IsOfPart words before after refusal = IsAccepted words × (after.opens ≤ before.opens + 1) × (IsKnown words before → IsRefusal words before.given refusal)
+
 -- Why a command was refused, with the files before and after: words that depart from the grammar leave the files as they were,
--- and so does memory that is wanting for the words; all other refusals are of words that are accepted, and a call can fail only
--- where they name a file.
+-- and so does memory that is wanting for the words; all other refusals are of words that are accepted. A call can fail only
+-- where they name a file, and a cell is looked for only where a part is planned. Memory is wanting and a part is refused before a
+-- second file is opened.
 abbrev pub Explains : List (List ℕ) → FilesState → FilesState → Refusal → Type 0
 Explains words before after (refused.Word place) = DepartsAt words place × (after ≡ before)
 Explains words before after refused.NotRead = IsAccepted words × (¬ NamesNoFile words) × Rises before.faults after.faults
@@ -226,7 +232,11 @@ Explains words before after refused.NoMemory = (IsAccepted words × (after.opens
 Explains words before after refused.TooLong =
     IsAccepted words × ((part program : List ℕ) (o : Options) → IsVerify words part program o → IsLongRead before after)
     × (IsKnown words before → IsRefusal words before.given refused.TooLong)
-Explains words before after refusal = IsAccepted words × (IsKnown words before → IsRefusal words before.given refusal)
+Explains words before after (refused.Uncovered feature cell) = AsksForPlan words × IsOfPart words before after (refused.Uncovered feature cell)
+Explains words before after (refused.Text fault) = IsOfPart words before after (refused.Text fault)
+Explains words before after (refused.Model fault) = IsOfPart words before after (refused.Model fault)
+Explains words before after (refused.Reference fault) = IsOfPart words before after (refused.Reference fault)
+Explains words before after (refused.Job fault) = IsOfPart words before after (refused.Job fault)
 
 -- The words were refused: the refusal has its cause and gives the status, the errors took its text, and the output is
 -- untouched.
@@ -242,23 +252,28 @@ abbrev pub most_bytes : Command → ℕ
 most_bytes Compile = LONGEST + 1
 most_bytes Report = LONGEST + 1
 most_bytes Verify = LONGEST + 1 + (LONGEST_PROGRAM + 1)
-most_bytes command = 0
+most_bytes Make = 0
+most_bytes Trial = 0
 
 -- and how often is read: each reading but the last takes a byte
 abbrev pub most_reads : Command → ℕ
 most_reads Compile = LONGEST + 2
 most_reads Report = LONGEST + 2
 most_reads Verify = LONGEST + 2 + (LONGEST_PROGRAM + 2)
-most_reads command = 0
+most_reads Make = 0
+most_reads Trial = 0
 
 -- What a command does to the files: words that are not accepted, or that name no file, leave them as they are; each file is opened
--- once at the most, and read to its end or until one byte more than its limit was taken.
+-- once at the most, and read to its end or until one byte more than its limit was taken. Before a second file is opened no more
+-- than a part is read.
 pub record ReadsOnce (words : List (List ℕ)) (before after : FilesState) : Type 0 where
   pub refused : ¬ IsAccepted words → after ≡ before
   pub quiet : NamesNoFile words → after ≡ before
   pub opens : (o : Options) → IsCommand words o → after.opens ≤ before.opens + length o.files
   pub reads : (o : Options) → IsCommand words o → after.reads ≤ before.reads + most_reads o.command
   pub bytes : (o : Options) → IsCommand words o → after.bytes ≤ count_after before.bytes (most_bytes o.command)
+  pub part_reads : before.opens + 1 < last_count → after.opens ≤ before.opens + 1 → after.reads ≤ before.reads + (LONGEST + 2)
+  pub part_bytes : before.opens + 1 < last_count → after.opens ≤ before.opens + 1 → after.bytes ≤ count_after before.bytes (LONGEST + 1)
   pub no_strange : IsTrue before.tells → (o : Options) → IsCommand words o → All (λ name. IsTrue (before.has_file name)) o.files
       → after.strange_opens ≡ before.strange_opens
 
@@ -269,3 +284,26 @@ pub data Stops (words : List (List ℕ)) (before after : FilesState) (out out_af
       → out_after ≡ out → TakesFront err err_after (refusal_text refusal) → Stops words before after out out_after err err_after
   at_answer : (answer : Answer) → IsFound words before answer
       → TakesFront out out_after (answer_text answer) → err_after ≡ err → Stops words before after out out_after err err_after
+
+-- Completeness.
+
+-- no count of faults rose
+pub record IsFaultless (before after : FilesState) (out out_after err err_after : SinkState) : Type 0 where
+  pub files : ¬ Rises before.faults after.faults
+  pub out : ¬ Rises out.faults out_after.faults
+  pub err : ¬ Rises err.faults err_after.faults
+
+-- What is promised where no count of faults rose: neither a reading nor a writing failed; and memory apart, what the words ask for
+-- is given, the status and the texts being those of the outcome.
+pub record IsComplete (words : List (List ℕ)) (files : FilesState) (status : Status) (out out_after err err_after : SinkState) : Type 0 where
+  pub no_read_fault : status ≢ ReadFault
+  pub no_write_fault : status ≢ WriteFault
+  pub plans : IsKnown words files → (job : Job) → IsJobOf words files.given job → (status ≡ Done) ⊎ (status ≡ Memory)
+  pub judges : IsTrue files.tells → (job : Job) (program : List ℕ) → IsCaseOf words files.given job program
+      → ((status ≡ Done) ⊎ (status ≡ No)) ⊎ (status ≡ Memory)
+  pub generates : AsksFor words Make → (status ≡ Done) ⊎ (status ≡ Memory)
+  pub outcome : IsKnown words files → (status ≡ Memory) ⊎ Ends words files.given status out out_after err err_after
+
+-- a status that comes once a second file was opened: that of a verdict or of a program that is too long, or one that a device gives
+abbrev pub IsOfProgram : Status → Type 0
+IsOfProgram status = ((status ≡ Done) ⊎ (status ≡ No)) ⊎ ((status ≡ TooLong) ⊎ ((status ≡ ReadFault) ⊎ (status ≡ WriteFault)))

@@ -1,15 +1,21 @@
 -- MEANING: laws of what a command ends with.
-use Rattle.std.specs.Prelude.{◌≡◌, ◌⊎◌, ℕ, List}
+use Rattle.std.specs.Prelude.{◌≡◌, ◌⊎◌, ◌+◌, ◌≤◌, ℕ, List, [], codes, IsTrue}
 use Rattle.sn_io.specs.Files.{FilesState}
 use Rattle.sn_io.specs.Sink.{SinkState}
 use Rattle.sn_outline.specs.Job.{Job}
+use Rattle.sn_outline.specs.declared.job.StepJob.{StepJob}
+use Rattle.sn_link.specs.declared.moves.Move.{Move}
+use Rattle.sn_program.specs.Text.{program_text}
+use Rattle.sn_words.specs.Options.{Options}
 use Rattle.stepmill.specs.declared.status.Status.{Status}
-use Rattle.stepmill.specs.declared.status.Status.TheVariants.{BadWords, Memory}
+use Rattle.stepmill.specs.declared.status.Status.TheVariants.{BadWords, Done, Memory}
 use Rattle.sn_message.specs.declared.refusal.Refusal.{Refusal}
 use Rattle.sn_words.specs.Command.{IsAccepted}
 use Rattle.sn_open.specs.declared.verdict.Verdict.{Verdict}
 use Rattle.stepmill.specs.Answer.{Judged}
-use Rattle.stepmill.specs.Outcome.{IsAnswer, IsCaseOf, IsJobOf, IsOutcome, IsRefusal, Refuses}
+use Rattle.stepmill.specs.Command.{HaveOneSetting, IsOfFile, IsVerify}
+use Rattle.stepmill.specs.Outcome.{IsAnswer, IsCaseOf, IsJobOf, IsLongRead, IsOutcome, IsPrepared, IsRefusal, Refuses}
+use Rattle.stepmill.specs.Part.{IsSoundPart}
 
 -- words and files ask for one job
 abbrev pub OneJob : Type 0
@@ -45,3 +51,31 @@ BadWordsAreNoCommand =
     (words : List (List ℕ)) (before after : FilesState) (status : Status) (out out_after err err_after : SinkState)
     → Refuses words before after status out out_after err err_after
     → (status ≡ BadWords → ¬ IsAccepted words) × ((¬ IsAccepted words) → (status ≡ BadWords) ⊎ (status ≡ Memory))
+
+-- a long reading took 67,108,865 bytes where one file was opened, and 1,099,511,627,777 where two were
+abbrev pub LongReadsTakeMore : Type 0
+LongReadsTakeMore =
+    (before after : FilesState) → before.bytes ≡ 0 → IsLongRead before after
+    → (67108865 ≤ after.bytes) × (after.opens ≡ before.opens + 2 → 1099511627777 ≤ after.bytes)
+
+-- and so many bytes are enough
+abbrev pub MoreIsLong : Type 0
+MoreIsLong =
+    (before after : FilesState) → before.bytes ≡ 0
+    → (after.opens ≡ before.opens + 1 → 67108865 ≤ after.bytes → IsLongRead before after)
+    × (after.opens ≡ before.opens + 2 → 1099511627777 ≤ after.bytes → IsLongRead before after)
+
+-- the job of a part depends on its bytes, the pitch, the raw box and the values alone
+abbrev pub OneSettingOneJob : Type 0
+OneSettingOneJob = (bytes : List ℕ) (o p : Options) (job : Job) → HaveOneSetting o p → IsSoundPart bytes o job → IsSoundPart bytes p job
+
+-- The program that is written for a part is judged yes for that part: where the words ask for the program of a part, and this plan
+-- was found for it, and other words ask for the verdict with the same setting on that program for a part with the same bytes, the
+-- outcome of those is a yes.
+abbrev pub WrittenIsApproved : Type 0
+WrittenIsApproved =
+    (words others : List (List ℕ)) (files later : FilesState) (part other name : List ℕ) (o p : Options) (job : Job) (plan : List (StepJob × List Move))
+    → IsOfFile words part o → IsVerify others other name p → HaveOneSetting o p
+    → IsTrue files.tells → IsPrepared words files job plan
+    → later.given other 0 ≡ files.given part 0 → later.given name 1 ≡ program_text job plan
+    → IsOutcome others later.given Done (codes "yes\n") []

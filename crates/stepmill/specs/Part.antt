@@ -62,7 +62,10 @@ IsRefusedPart bytes o (refused.Text fault) = (length bytes ≤ LONGEST) × IsFir
 IsRefusedPart bytes o (refused.Model fault) = (file : Content) × IsFileOf bytes file × IsModelFault file.instances fault
 IsRefusedPart bytes o (refused.Reference fault) = (m : ModelContent) × HaveModel bytes m × IsRefFault m fault
 IsRefusedPart bytes o (refused.Job fault) = (m : ModelContent) × HaveSoundModel bytes m × IsRefusedJob m o fault
-IsRefusedPart bytes o refusal = ⊥
+IsRefusedPart bytes o (refused.Word place) = ⊥
+IsRefusedPart bytes o refused.NotRead = ⊥
+IsRefusedPart bytes o refused.NoMemory = ⊥
+IsRefusedPart bytes o (refused.Uncovered feature cell) = ⊥
 
 -- the bytes are those of a sound part with the options, and this is its job
 abbrev pub IsSoundPart : List ℕ → Options → Job → Type 0

@@ -1,5 +1,5 @@
 //! The top call.
-ghost use Rattle.std.specs.Prelude.{◌≡◌, ◌≢◌, ◌⊎◌, ◌↔◌, List, ℕ, IsTrue};
+ghost use Rattle.std.specs.Prelude.{◌≡◌, ◌≢◌, ◌+◌, ◌<◌, ◌⊎◌, ◌↔◌, List, ℕ, IsTrue};
 ghost use Rattle.sn_io.specs.Count.{Rises};
 ghost use Rattle.sn_io.specs.Sink.{Takes, TakesFront, Writes};
 ghost use Rattle.sn_message.specs.RefusalText.{refusal_text};
@@ -8,13 +8,13 @@ ghost use Rattle.sn_outline.specs.Job.{Job as JobContent};
 ghost use Rattle.stepmill.specs.Answer.{generated_text};
 ghost use Rattle.stepmill.specs.Command.{AsksFor, AsksForCounts, IsMake};
 ghost use Rattle.stepmill.specs.Found.{CanBeWritten, found_status, found_text};
-ghost use Rattle.stepmill.specs.Outcome.{Answers, Approves, Compiles, Ends, IsCaseOf, IsJobOf, IsKnown, IsOfDevices, ReadsOnce, Refuses, Rejects, Reports, Stops, status_of};
+ghost use Rattle.stepmill.specs.Outcome.{Answers, Approves, Compiles, Ends, IsCaseOf, IsComplete, IsFaultless, IsJobOf, IsKnown, IsOfDevices, IsOfProgram, ReadsOnce, Refuses, Rejects, Reports, Stops, status_of};
 
 use crate::find::{Found, find};
 use crate::judge::sound_or_refused;
 use crate::laws::outcome::one_case;
 use crate::status::Status;
-use sn_io::{Files, Sink, WriteFault, write_all};
+use sn_io::{CountSink, Files, Sink, SteadyFiles, WriteFault, write_all};
 use sn_message::{Refusal, write_refusal, write_verdict};
 use sn_open::verdict_laws::verdicts;
 use sn_program::write_program;
@@ -69,6 +69,16 @@ pub fn run<F: Files, S: Sink, E: Sink>(
         → (result ≡ Status.Done) ↔ Good job program }
     ensures generates { AsksFor words.now Command.Make → (result ≡ Status.Done) ⊎ IsOfDevices result }
 
+    // Where no count of faults rose, what the words ask for is given, memory apart.
+    ensures complete { IsFaultless (F.state files.old) (F.state files.new) (S.state out.old) (S.state out.new) (E.state err.old) (E.state err.new)
+        → IsComplete words.now (F.state files.old) result (S.state out.old) (S.state out.new) (E.state err.old) (E.state err.new) }
+
+    // Once the program was opened, memory is not wanting any more: a program that is not too long is judged, unless a device fails.
+    ensures opened { (F.state files.old).opens + 1 < (F.state files.new).opens → IsOfProgram result }
+    ensures judged { (F.state files.old).opens + 1 < (F.state files.new).opens → IsTrue (F.state files.old).tells
+        → (job : JobContent) (program : List ℕ) → IsCaseOf words.now (F.state files.old).given job program
+        → ((result ≡ Status.Done) ⊎ (result ≡ Status.No)) ⊎ ((result ≡ Status.ReadFault) ⊎ (result ≡ Status.WriteFault)) }
+
     // Each refusal has its cause, and is told.
     ensures refused { result ≢ Status.Done → result ≢ Status.No → result ≢ Status.WriteFault
         → Refuses words.now (F.state files.old) (F.state files.new) result
@@ -92,6 +102,20 @@ pub fn run<F: Files, S: Sink, E: Sink>(
         Ok(found) => write(out, &found),
         Err(refusal) => refuse(err, refusal),
     }
+}
+
+/// Carries out the command over files and sinks that never fail: neither a reading nor a writing fails.
+pub fn run_steadily(
+    alloc: Global,
+    words: &Words,
+    files: &mut SteadyFiles<'_>,
+    out: &mut CountSink,
+    err: &mut CountSink,
+) -> Status
+    ensures no_read_fault { result ≢ Status.ReadFault }
+    ensures no_write_fault { result ≢ Status.WriteFault }
+{
+    run(alloc, words, files, out, err)
 }
 
 /// Writes the text of what was found, and gives its status.

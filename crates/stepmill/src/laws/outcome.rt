@@ -1,5 +1,5 @@
 //! Laws of what a command ends with.
-ghost use Rattle.stepmill.specs.OutcomeLaws.{BadWordsAreNoCommand, OneCase, OneJob, OneOutcome, OneRefusal, OneVerdict};
+ghost use Rattle.stepmill.specs.OutcomeLaws.{BadWordsAreNoCommand, LongReadsTakeMore, MoreIsLong, OneCase, OneJob, OneOutcome, OneRefusal, OneSettingOneJob, OneVerdict, WrittenIsApproved};
 
 use crate::judge::sound_or_refused;
 use sn_link::laws::plans;
@@ -51,4 +51,18 @@ pub fn outcomes()
     plans();
     one_count();
     refusals();
+}
+
+/// Laws of what is read where a part or a program is too long.
+pub fn long_reads()
+    ensures take_more { LongReadsTakeMore }
+    ensures enough { MoreIsLong }
+{}
+
+/// The program that is written for a part is judged yes, with the same pitch, raw box and values.
+pub fn written()
+    ensures one_setting { OneSettingOneJob }
+    ensures approved { WrittenIsApproved }
+{
+    one_meaning();
 }

@@ -94,6 +94,24 @@ returns-in-Ok-clause-stopped g c = λ stopped.
     let state = g.F.Files.state in
     lemmas.stopped_at c.args.words.now (state c.args.files.now) (state c.find.new.files) _ _ _ c.in-Ok.found c.in-Ok.ensures.found (c.write.ensures.stopped stopped)
 
+pub returns-in-Ok-clause-complete : goal.returns-in-Ok-clause-complete
+returns-in-Ok-clause-complete g c = λ faultless.
+    let files = g.F.Files.state c.args.files.now in
+    let (answer, known, text, status) = lemmas.answer_of c.args.words.now files c.in-Ok.found c.in-Ok.ensures.found in
+    lemmas.complete c.args.words.now files _ _ _ _ _ (lemmas.answer_no_read _ _ answer status c.write.ensures.either)
+    (λ stopped. faultless.out (c.write.ensures.stopped stopped).rises) (returns-in-Ok-clause-completes g c) (returns-in-Ok-clause-judges g c)
+    (returns-in-Ok-clause-generates g c) (returns-in-Ok-clause-outcome g c)
+
+pub returns-in-Ok-clause-opened : goal.returns-in-Ok-clause-opened
+returns-in-Ok-clause-opened g c = λ two.
+    let files = g.F.Files.state c.args.files.now in
+    let (answer, known, text, status) = lemmas.answer_of c.args.words.now files c.in-Ok.found c.in-Ok.ensures.found in
+    lemmas.answer_of_program _ _ answer status c.write.ensures.either
+
+pub returns-in-Ok-clause-judged : goal.returns-in-Ok-clause-judged
+returns-in-Ok-clause-judged g c = λ two tells job program asked.
+    lemmas.without_memory _ (returns-in-Ok-clause-opened g c two) (returns-in-Ok-clause-judges g c tells job program asked)
+
 -- The command was refused.
 
 pub returns-in-Err-clause-outcome : goal.returns-in-Err-clause-outcome
@@ -149,3 +167,20 @@ returns-in-Err-clause-exactly g c = λ tells job program asked devices.
 
 pub returns-in-Err-clause-stopped : goal.returns-in-Err-clause-stopped
 returns-in-Err-clause-stopped g c = λ stopped. at_message c.in-Err.refusal c.in-Err.ensures.explains refl (c.refuse.ensures.stopped stopped)
+
+pub returns-in-Err-clause-complete : goal.returns-in-Err-clause-complete
+returns-in-Err-clause-complete g c = λ faultless.
+    let state = g.F.Files.state in
+    lemmas.complete c.args.words.now (state c.args.files.now) _ _ _ _ _
+    (lemmas.refusal_no_read c.args.words.now (state c.args.files.now) (state c.find.new.files) c.in-Err.refusal _ c.in-Err.ensures.explains c.refuse.ensures.either faultless.files)
+    (λ stopped. faultless.err (c.refuse.ensures.stopped stopped).rises) (returns-in-Err-clause-completes g c) (returns-in-Err-clause-judges g c)
+    (returns-in-Err-clause-generates g c) (returns-in-Err-clause-outcome g c)
+
+pub returns-in-Err-clause-opened : goal.returns-in-Err-clause-opened
+returns-in-Err-clause-opened g c = λ two.
+    let state = g.F.Files.state in
+    lemmas.refusal_of_program c.args.words.now (state c.args.files.now) (state c.find.new.files) c.in-Err.refusal _ c.in-Err.ensures.explains two c.refuse.ensures.either
+
+pub returns-in-Err-clause-judged : goal.returns-in-Err-clause-judged
+returns-in-Err-clause-judged g c = λ two tells job program asked.
+    lemmas.without_memory _ (returns-in-Err-clause-opened g c two) (returns-in-Err-clause-judges g c tells job program asked)
