@@ -140,25 +140,56 @@ fn end_of(
     failing: Option<u64>,
     stopping: Option<u64>,
 ) -> Result<End, Fail> {
+    let words = words_of(rt, line)?;
+    let files = files_of(rt, part, program, failing)?;
+    let out = output(rt, stopping)?;
+    ran(rt, &words, files, out)
+}
+
+fn words_of(rt: &HostRuntime, line: &str) -> Result<Words, Fail> {
     let mut words = Words::new(rt.alloc());
     for word in line.split(' ') {
         words.push(word.as_bytes())?;
     }
+    Ok(words)
+}
+
+fn files_of(
+    rt: &HostRuntime,
+    part: &str,
+    program: &str,
+    failing: Option<u64>,
+) -> Result<MemFiles, Fail> {
     let mut files = MemFiles::new(rt.alloc());
     files.add(b"one.stp", part.as_bytes())?;
     files.add(b"one.ngc", program.as_bytes())?;
-    let mut out = MemSink::new(rt.alloc(), ROOM)?;
-    let mut err = MemSink::new(rt.alloc(), 1_000)?;
     if let Some(call) = failing {
         files.fail_at(call)?;
     }
+    Ok(files)
+}
+
+fn output(rt: &HostRuntime, stopping: Option<u64>) -> Result<MemSink, Fail> {
+    let mut out = MemSink::new(rt.alloc(), ROOM)?;
     if let Some(call) = stopping {
         out.fail_at(call)?;
     }
-    let status = run(rt.alloc(), &words, &mut files, &mut out, &mut err);
-    let out = Vec::from_slice(rt.alloc(), out.bytes())?;
-    let err = Vec::from_slice(rt.alloc(), err.bytes())?;
-    Ok(End { status, out, err })
+    Ok(out)
+}
+
+fn ran(
+    rt: &HostRuntime,
+    words: &Words,
+    mut files: MemFiles,
+    mut out: MemSink,
+) -> Result<End, Fail> {
+    let mut err = MemSink::new(rt.alloc(), 1_000)?;
+    let status = run(rt.alloc(), words, &mut files, &mut out, &mut err);
+    Ok(End {
+        status,
+        out: Vec::from_slice(rt.alloc(), out.bytes())?,
+        err: Vec::from_slice(rt.alloc(), err.bytes())?,
+    })
 }
 
 /// The end is one with this status, output and errors.
