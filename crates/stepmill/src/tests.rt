@@ -1,7 +1,7 @@
 //! Commands over files and sinks in memory. tools/system.sh has more of them, over the built program.
 
 use crate::{Status, run};
-use sn_io::{MemFiles, MemSink};
+use sn_io::{CountSink, MemFiles, MemSink, SteadyFiles};
 use sn_program::END;
 use sn_words::Words;
 use std::test::Fail;
@@ -333,4 +333,42 @@ fn faults_of_outputs_end_it(rt: HostRuntime) -> Result<(), Fail> {
     is_end(&end, Status::Done, program.as_str(), "")?;
     let end = end_of(&rt, VERIFY, SAMPLE, program.as_str(), None, Some(1))?;
     is_end(&end, Status::WriteFault, "", "")
+}
+
+#[test]
+fn empty_parts_are_refused(rt: HostRuntime) -> Result<(), Fail> {
+    let at_the_end = "stepmill: part: unexpected at 0\n";
+    compiles_to(&rt, "", Status::PartRefused, "", at_the_end)
+}
+
+#[test]
+fn a_refusal_that_cannot_be_told_is_a_fault(rt: HostRuntime) -> Result<(), Fail> {
+    let words = words_of(&rt, COMPILE)?;
+    let mut files = files_of(&rt, "", "", None)?;
+    let mut out = output(&rt, None)?;
+    let mut err = output(&rt, Some(1))?;
+    let status = run(rt.alloc(), &words, &mut files, &mut out, &mut err);
+    assert_eq!(rt; status, Status::WriteFault);
+    assert_eq!(rt; out.bytes(), b"".as_slice());
+    assert_eq!(rt; err.bytes(), b"".as_slice());
+    Ok(())
+}
+
+/// A program of this many blank lines is longer than a part may be, and is judged.
+#[test]
+fn long_programs_are_judged(rt: HostRuntime) -> Result<(), Fail> {
+    let mut program = Vec::new(rt.alloc());
+    for _ in 0..262_145 {
+        program.extend_from_slice(&[b' '; 256])?;
+        program.push(b'\n')?;
+    }
+    let words = words_of(&rt, VERIFY)?;
+    let mut files = SteadyFiles::new(SAMPLE.as_bytes(), program.as_slice());
+    let mut out = CountSink::new();
+    let mut err = CountSink::new();
+    let status = run(rt.alloc(), &words, &mut files, &mut out, &mut err);
+    assert_eq!(rt; status, Status::No);
+    assert_eq!(rt; out.taken(), "no: no end\n".len() as u64);
+    assert_eq!(rt; err.taken(), 0);
+    Ok(())
 }
