@@ -105,14 +105,31 @@ fn first_workingstep(c: &Checked) -> Option<u32>
 }
 
 /// The step of the part with these changes, where the raw top is at 10 mm.
-fn step_with(
-    alloc: Global,
-    changes: &[Change],
-    workpiece: &Frame,
-) -> Result<Result<StepParts, StepFault>, Fail> {
+fn step_with(alloc: Global, changes: &[Change]) -> Result<Result<StepParts, StepFault>, Fail> {
     let c = part(alloc, changes)?;
-    let ws = first_workingstep(&c).ok_or("no workingstep")?;
-    Ok(step(alloc, &c, workpiece, 100_000, ws))
+    step_of(alloc, &c)
+}
+
+/// The step of the part's first workingstep.
+fn step_of(alloc: Global, c: &Checked) -> Result<Result<StepParts, StepFault>, Fail> {
+    let ws = first_workingstep(c).ok_or("no workingstep")?;
+    Ok(step(alloc, c, &Frame::identity(), 10 * PER_MM as i32, ws))
+}
+
+/// The step of the part with these changes, which is given.
+fn made(alloc: Global, changes: &[Change]) -> Result<StepParts, Fail> {
+    match step_with(alloc, changes)? {
+        Ok(parts) => Ok(parts),
+        Err(_) => Err(Fail::from("no step")),
+    }
+}
+
+/// Why the part with these changes has no step.
+fn refusal(alloc: Global, changes: &[Change]) -> Result<StepFault, Fail> {
+    match step_with(alloc, changes)? {
+        Ok(_) => Err(Fail::from("a step")),
+        Err(fault) => Ok(fault),
+    }
 }
 
 fn skew(n: u32) -> StepFault {
@@ -328,10 +345,7 @@ fn refusals(rt: HostRuntime) -> Result<(), Fail> {
         (&[SHORT], StepFault::ShortTool(4)),
     ];
     for (changes, fault) in rows {
-        match step_with(rt.alloc(), changes, &Frame::identity())? {
-            Ok(_) => return Err(Fail::from("a step")),
-            Err(told) => assert_eq!(rt; told, fault),
-        }
+        assert_eq!(rt; refusal(rt.alloc(), changes)?, fault);
     }
     Ok(())
 }
@@ -354,6 +368,11 @@ fn outline_text(alloc: Global, shape: &Shape) -> Result<String, Fail> {
         Shape::Trail(ps, w) => format!(in alloc; "trail{} {}", places(alloc, ps.as_slice())?, w)?,
     };
     Ok(text)
+}
+
+fn outline_of(alloc: Global, changes: &[Change]) -> Result<String, Fail> {
+    let parts = made(alloc, changes)?;
+    outline_text(alloc, &parts.outline.shape)
 }
 
 #[test]
@@ -409,10 +428,7 @@ fn outlines(rt: HostRuntime) -> Result<(), Fail> {
         ),
     ];
     for (changes, outline) in rows {
-        let Ok(parts) = step_with(rt.alloc(), changes, &Frame::identity())? else {
-            return Err(Fail::from("no step"));
-        };
-        let told = outline_text(rt.alloc(), &parts.outline.shape)?;
+        let told = outline_of(rt.alloc(), changes)?;
         assert_eq!(rt; told.as_str(), outline);
     }
     Ok(())
@@ -439,6 +455,30 @@ fn parts_text(alloc: Global, p: &StepParts) -> Result<String, Fail> {
         p.body.d, p.body.e, p.feed, p.speed
     )?;
     Ok(text)
+}
+
+fn parts_of(alloc: Global, changes: &[Change]) -> Result<String, Fail> {
+    let parts = made(alloc, changes)?;
+    parts_text(alloc, &parts)
+}
+
+/// The tool's number and the corner diameter of the step that is made with 1 and 5.
+fn numbers_of(alloc: Global, changes: &[Change]) -> Result<(u32, u32), Fail> {
+    let step = made(alloc, changes)?.into_step(1, 5);
+    Ok((step.tool, step.corner))
+}
+
+/// The security height of the workingstep, the height of its security plane, and whether the placement of that is read.
+fn security(alloc: Global) -> Result<(i32, i32, bool), Fail> {
+    let c = part(alloc, &[])?;
+    let ws = first_workingstep(&c).ok_or("no workingstep")?;
+    let plane = c.one(ws, 0);
+    let placement = c.one(plane, 0);
+    Ok((
+        security_of(&c, ws).get(),
+        plane_height(&c, plane).get(),
+        read_placement(&c, placement).is_ok(),
+    ))
 }
 
 #[test]
@@ -491,21 +531,11 @@ fn parts(rt: HostRuntime) -> Result<(), Fail> {
         ),
     ];
     for (changes, expected) in rows {
-        let Ok(parts) = step_with(rt.alloc(), changes, &Frame::identity())? else {
-            return Err(Fail::from("no step"));
-        };
-        let told = parts_text(rt.alloc(), &parts)?;
+        let told = parts_of(rt.alloc(), changes)?;
         assert_eq!(rt; told.as_str(), expected);
-        let step = parts.into_step(1, 5);
-        assert_eq!(rt; (step.tool, step.corner), (1, 5));
+        assert_eq!(rt; numbers_of(rt.alloc(), changes)?, (1, 5));
     }
-    let c = part(rt.alloc(), &[])?;
-    let ws = first_workingstep(&c).ok_or("no workingstep")?;
-    assert_eq!(rt; security_of(&c, ws).get(), 200_000);
-    let plane = c.one(ws, 0);
-    assert_eq!(rt; plane_height(&c, plane).get(), 200_000);
-    let placement = c.one(plane, 0);
-    assert!(rt; read_placement(&c, placement).is_ok());
+    assert_eq!(rt; security(rt.alloc())?, (200_000, 200_000, true));
     Ok(())
 }
 
@@ -521,6 +551,16 @@ fn part_of_points(alloc: Global, changes: &[Change], count: usize) -> Result<Che
     checked_of(alloc, text.as_bytes())
 }
 
+/// Why the part with so many points has no step, where it has none.
+fn fault_of_points(
+    alloc: Global,
+    changes: &[Change],
+    count: usize,
+) -> Result<Option<StepFault>, Fail> {
+    let c = part_of_points(alloc, changes, count)?;
+    Ok(step_of(alloc, &c)?.err())
+}
+
 #[test]
 fn polylines_of_many_points(rt: HostRuntime) -> Result<(), Fail> {
     const POINTS: Change = (57, "POLYLINE('',(POINTS))");
@@ -533,10 +573,8 @@ fn polylines_of_many_points(rt: HostRuntime) -> Result<(), Fail> {
     ];
     for (changes, feature) in rows {
         for (count, fault) in [(1_000, None), (1_001, Some(StepFault::BadOutline(feature)))] {
-            let c = part_of_points(rt.alloc(), changes, count)?;
-            let ws = first_workingstep(&c).ok_or("no workingstep")?;
-            let told = step(rt.alloc(), &c, &Frame::identity(), 10 * PER_MM as i32, ws);
-            assert_eq!(rt; told.err(), fault, "{count}");
+            let told = fault_of_points(rt.alloc(), changes, count)?;
+            assert_eq!(rt; told, fault, "{count}");
         }
     }
     Ok(())

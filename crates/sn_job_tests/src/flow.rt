@@ -97,15 +97,20 @@ fn tool_text(alloc: Global, s: &StepJob) -> Result<String, Fail> {
     )?)
 }
 
+/// Adds a blank and a piece.
+fn push(text: &mut String, piece: String) -> Result<(), Fail> {
+    text.push(' ')?;
+    text.push_str(piece.as_str())?;
+    Ok(())
+}
+
 /// Adds the text of a step.
 fn push_step(alloc: Global, text: &mut String, s: &StepJob) -> Result<(), Fail> {
-    let circle = circle_text(alloc, s)?;
-    let heights = heights_text(alloc, s)?;
-    let cut = cut_text(alloc, s)?;
-    let tool = tool_text(alloc, s)?;
-    let step = format!(in alloc; "; {circle} {heights} {cut} {tool}")?;
-    text.push_str(step.as_str())?;
-    Ok(())
+    text.push(';')?;
+    push(text, circle_text(alloc, s)?)?;
+    push(text, heights_text(alloc, s)?)?;
+    push(text, cut_text(alloc, s)?)?;
+    push(text, tool_text(alloc, s)?)
 }
 
 /// What stands before the tools of a job.
@@ -124,9 +129,7 @@ fn corner_text(alloc: Global, p: &Pt3) -> Result<String, Fail> {
 }
 
 fn push_tool(alloc: Global, text: &mut String, tool: u32) -> Result<(), Fail> {
-    let tool = format!(in alloc; " #{}", tool)?;
-    text.push_str(tool.as_str())?;
-    Ok(())
+    push(text, format!(in alloc; "#{}", tool)?)
 }
 
 /// A job on one line.

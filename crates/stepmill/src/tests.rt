@@ -1,7 +1,7 @@
 //! Commands over files and sinks in memory. tools/system.sh has more of them, over the built program.
 
 use crate::{Status, run};
-use sn_io::{MemFiles, MemSink};
+use sn_io::{CountSink, MemFiles, MemSink, SteadyFiles};
 use sn_program::END;
 use sn_words::Words;
 use std::test::Fail;
@@ -140,25 +140,56 @@ fn end_of(
     failing: Option<u64>,
     stopping: Option<u64>,
 ) -> Result<End, Fail> {
+    let words = words_of(rt, line)?;
+    let files = files_of(rt, part, program, failing)?;
+    let out = output(rt, stopping)?;
+    ran(rt, &words, files, out)
+}
+
+fn words_of(rt: &HostRuntime, line: &str) -> Result<Words, Fail> {
     let mut words = Words::new(rt.alloc());
     for word in line.split(' ') {
         words.push(word.as_bytes())?;
     }
+    Ok(words)
+}
+
+fn files_of(
+    rt: &HostRuntime,
+    part: &str,
+    program: &str,
+    failing: Option<u64>,
+) -> Result<MemFiles, Fail> {
     let mut files = MemFiles::new(rt.alloc());
     files.add(b"one.stp", part.as_bytes())?;
     files.add(b"one.ngc", program.as_bytes())?;
-    let mut out = MemSink::new(rt.alloc(), ROOM)?;
-    let mut err = MemSink::new(rt.alloc(), 1_000)?;
     if let Some(call) = failing {
         files.fail_at(call)?;
     }
+    Ok(files)
+}
+
+fn output(rt: &HostRuntime, stopping: Option<u64>) -> Result<MemSink, Fail> {
+    let mut out = MemSink::new(rt.alloc(), ROOM)?;
     if let Some(call) = stopping {
         out.fail_at(call)?;
     }
-    let status = run(rt.alloc(), &words, &mut files, &mut out, &mut err);
-    let out = Vec::from_slice(rt.alloc(), out.bytes())?;
-    let err = Vec::from_slice(rt.alloc(), err.bytes())?;
-    Ok(End { status, out, err })
+    Ok(out)
+}
+
+fn ran(
+    rt: &HostRuntime,
+    words: &Words,
+    mut files: MemFiles,
+    mut out: MemSink,
+) -> Result<End, Fail> {
+    let mut err = MemSink::new(rt.alloc(), 1_000)?;
+    let status = run(rt.alloc(), words, &mut files, &mut out, &mut err);
+    Ok(End {
+        status,
+        out: Vec::from_slice(rt.alloc(), out.bytes())?,
+        err: Vec::from_slice(rt.alloc(), err.bytes())?,
+    })
 }
 
 /// The end is one with this status, output and errors.
@@ -302,4 +333,42 @@ fn faults_of_outputs_end_it(rt: HostRuntime) -> Result<(), Fail> {
     is_end(&end, Status::Done, program.as_str(), "")?;
     let end = end_of(&rt, VERIFY, SAMPLE, program.as_str(), None, Some(1))?;
     is_end(&end, Status::WriteFault, "", "")
+}
+
+#[test]
+fn empty_parts_are_refused(rt: HostRuntime) -> Result<(), Fail> {
+    let at_the_end = "stepmill: part: unexpected at 0\n";
+    compiles_to(&rt, "", Status::PartRefused, "", at_the_end)
+}
+
+#[test]
+fn a_refusal_that_cannot_be_told_is_a_fault(rt: HostRuntime) -> Result<(), Fail> {
+    let words = words_of(&rt, COMPILE)?;
+    let mut files = files_of(&rt, "", "", None)?;
+    let mut out = output(&rt, None)?;
+    let mut err = output(&rt, Some(1))?;
+    let status = run(rt.alloc(), &words, &mut files, &mut out, &mut err);
+    assert_eq!(rt; status, Status::WriteFault);
+    assert_eq!(rt; out.bytes(), b"".as_slice());
+    assert_eq!(rt; err.bytes(), b"".as_slice());
+    Ok(())
+}
+
+/// A program of this many blank lines is longer than a part may be, and is judged.
+#[test]
+fn long_programs_are_judged(rt: HostRuntime) -> Result<(), Fail> {
+    let mut program = Vec::new(rt.alloc());
+    for _ in 0..262_145 {
+        program.extend_from_slice(&[b' '; 256])?;
+        program.push(b'\n')?;
+    }
+    let words = words_of(&rt, VERIFY)?;
+    let mut files = SteadyFiles::new(SAMPLE.as_bytes(), program.as_slice());
+    let mut out = CountSink::new();
+    let mut err = CountSink::new();
+    let status = run(rt.alloc(), &words, &mut files, &mut out, &mut err);
+    assert_eq!(rt; status, Status::No);
+    assert_eq!(rt; out.taken(), "no: no end\n".len() as u64);
+    assert_eq!(rt; err.taken(), 0);
+    Ok(())
 }
