@@ -152,12 +152,14 @@ explains_file law words before after name o refused.TooLong command opens why = 
 )
 explains_file law words before after name o (refused.Uncovered feature cell) command opens why = (
   plan_of_file words name o command,
-  (o, command.accepted),
-  omega (arith, opens),
-  (λ known.
-      uncompiled (before.given name 0) o (of_file name command refl)
-      (as_told before name (λ bytes. IsUncompiledPart bytes o (refused.Uncovered feature cell))
-      (tells_of law words name [] o before command.accepted command.file known) why)),
+  (
+    (o, command.accepted),
+    omega (arith, opens),
+    (λ known.
+        uncompiled (before.given name 0) o (of_file name command refl)
+        (as_told before name (λ bytes. IsUncompiledPart bytes o (refused.Uncovered feature cell))
+        (tells_of law words name [] o before command.accepted command.file known) why)),
+  ),
 )
 explains_file law words before after name o refusal command opens why = (
   (o, command.accepted),
@@ -195,7 +197,7 @@ uncounted law words files o refused.TooLong command why = (
   (λ _. uncompiled (generated_text o.seed) o (of_seed command refl) why),
 )
 uncounted law words files o (refused.Uncovered feature cell) command why =
-    (plan_of_seed words o command, (o, command.accepted), more files.opens 1, (λ _. uncompiled (generated_text o.seed) o (of_seed command refl) why))
+    (plan_of_seed words o command, ((o, command.accepted), more files.opens 1, (λ _. uncompiled (generated_text o.seed) o (of_seed command refl) why)))
 uncounted law words files o refusal command why =
     ((o, command.accepted), more files.opens 1, (λ _. uncompiled (generated_text o.seed) o (of_seed command refl) why))
 

@@ -59,8 +59,7 @@ short_enough n m short same = omega (arith, short, same)
 pub written_is_approved : SaysOneThing → WrittenIsApproved
 written_is_approved law words others files later part other name o p job plan asked verify same told prepared bytes text =
     let compiled = compiled_of law words files part o prepared.loaded.options job asked told prepared.loaded.part in
-    answered (Judged job (program_text job plan) Yes)
-    (
+    answered (Judged job (program_text job plan) Yes) (
       record {
         part_name = other;
         name = name;

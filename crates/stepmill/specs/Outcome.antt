@@ -289,9 +289,9 @@ pub data Stops (words : List (List ℕ)) (before after : FilesState) (out out_af
 
 -- no count of faults rose
 pub record IsFaultless (before after : FilesState) (out out_after err err_after : SinkState) : Type 0 where
-  pub files : ¬ Rises before.faults after.faults
-  pub out : ¬ Rises out.faults out_after.faults
-  pub err : ¬ Rises err.faults err_after.faults
+  pub of_files : ¬ Rises before.faults after.faults
+  pub of_out : ¬ Rises out.faults out_after.faults
+  pub of_err : ¬ Rises err.faults err_after.faults
 
 -- What is promised where no count of faults rose: neither a reading nor a writing failed; and memory apart, what the words ask for
 -- is given, the status and the texts being those of the outcome.

@@ -99,7 +99,7 @@ returns-in-Ok-clause-complete g c = λ faultless.
     let files = g.F.Files.state c.args.files.now in
     let (answer, known, text, status) = lemmas.answer_of c.args.words.now files c.in-Ok.found c.in-Ok.ensures.found in
     lemmas.complete c.args.words.now files _ _ _ _ _ (lemmas.answer_no_read _ _ answer status c.write.ensures.either)
-    (λ stopped. faultless.out (c.write.ensures.stopped stopped).rises) (returns-in-Ok-clause-completes g c) (returns-in-Ok-clause-judges g c)
+    (λ stopped. faultless.of_out (c.write.ensures.stopped stopped).rises) (returns-in-Ok-clause-completes g c) (returns-in-Ok-clause-judges g c)
     (returns-in-Ok-clause-generates g c) (returns-in-Ok-clause-outcome g c)
 
 pub returns-in-Ok-clause-opened : goal.returns-in-Ok-clause-opened
@@ -172,8 +172,8 @@ pub returns-in-Err-clause-complete : goal.returns-in-Err-clause-complete
 returns-in-Err-clause-complete g c = λ faultless.
     let state = g.F.Files.state in
     lemmas.complete c.args.words.now (state c.args.files.now) _ _ _ _ _
-    (lemmas.refusal_no_read c.args.words.now (state c.args.files.now) (state c.find.new.files) c.in-Err.refusal _ c.in-Err.ensures.explains c.refuse.ensures.either faultless.files)
-    (λ stopped. faultless.err (c.refuse.ensures.stopped stopped).rises) (returns-in-Err-clause-completes g c) (returns-in-Err-clause-judges g c)
+    (lemmas.refusal_no_read c.args.words.now (state c.args.files.now) (state c.find.new.files) c.in-Err.refusal _ c.in-Err.ensures.explains c.refuse.ensures.either faultless.of_files)
+    (λ stopped. faultless.of_err (c.refuse.ensures.stopped stopped).rises) (returns-in-Err-clause-completes g c) (returns-in-Err-clause-judges g c)
     (returns-in-Err-clause-generates g c) (returns-in-Err-clause-outcome g c)
 
 pub returns-in-Err-clause-opened : goal.returns-in-Err-clause-opened
