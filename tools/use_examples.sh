@@ -1,14 +1,14 @@
 #!/usr/bin/env bash
 # Runs the examples of the documents and compares what comes with what they show. An example is a block of lines between
 # ```console and ```: a line '$ COMMAND' is run by the shell, and the lines up to the next one are what it has to write.
-# The commands of a document run in one folder, which holds the sample part as one.stp, with bin/stepmill on the path.
+# The commands of a document run in one folder, which holds the parts one.stp and plate.stp, with bin/stepmill on the path.
 #
 #   tools/use_examples.sh [DOCUMENT..]
 #
 # The last line is 'N passed, M failed'. The status is 1 where an example failed or there was none.
 set -u
 cd "$(dirname "$0")/.." || exit 1
-[ $# -gt 0 ] || set -- docs/USE.md docs/VERIFY.md docs/PROGRAMS.md integrations/linuxcnc/README.md
+[ $# -gt 0 ] || set -- docs/USE.md docs/VERIFY.md docs/JOBS.md docs/PROGRAMS.md integrations/linuxcnc/README.md
 top=$PWD
 room=$(mktemp -d) || exit 1
 trap 'rm -rf "$room"' EXIT
@@ -35,7 +35,7 @@ check() {
 for document in "$@"; do
   rm -rf "$room/work"
   mkdir "$room/work"
-  cp crates/stepmill/data/one.stp "$room/work/one.stp"
+  cp crates/stepmill/data/one.stp crates/stepmill/data/plate.stp "$room/work/"
   last=0
   command=
   is_example=

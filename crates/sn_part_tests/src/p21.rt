@@ -231,8 +231,9 @@ const DEEP_SECTION_LINES: &str = concat!(
 fn sections_are_written(rt: HostRuntime) -> Result<(), Fail> {
     for (sections, lines) in SECTIONS {
         let text = format!(in rt.alloc(); "{OPENING}ENDSEC;{sections}END-ISO-10303-21;")?;
-        let expected =
-            format!(in rt.alloc(); "{CANONICAL_OPENING}ENDSEC;\n{lines}END-ISO-10303-21;\n")?;
+        let expected = format!(in rt.alloc();
+            "{CANONICAL_OPENING}ENDSEC;\n{lines}END-ISO-10303-21;\n"
+        )?;
         let canonical = written(rt.alloc(), text.as_bytes())?;
         assert_eq!(rt; canonical.as_slice(), expected.as_bytes());
         let again = written(rt.alloc(), canonical.as_slice())?;
@@ -300,11 +301,17 @@ fn a_part_of_two_sections(rt: HostRuntime) -> Result<(), Fail> {
         section_counts(rt.alloc(), text.as_bytes())?.as_slice(),
         [13, 12].as_slice()
     );
-    assert_eq!(rt; written(rt.alloc(), text.as_bytes())?.as_slice(), text.as_bytes());
+    assert_eq!(rt;
+        written(rt.alloc(), text.as_bytes())?.as_slice(),
+        text.as_bytes()
+    );
     let front = format!(in rt.alloc(); "{PART}{between}")?;
     let again = format!(in rt.alloc(); "#1=PROJECT('one',#2,(#3),$,$,$);{PART_REST}")?;
     let expected = format!(in rt.alloc(); "Twice(1, {})", front.len())?;
-    assert_eq!(rt; told(rt.alloc(), &front, &again)?.as_str(), expected.as_str());
+    assert_eq!(rt;
+        told(rt.alloc(), &front, &again)?.as_str(),
+        expected.as_str()
+    );
     Ok(())
 }
 
