@@ -1,27 +1,10 @@
 //! stepmill: from a STEP-NC part program to a proved three-axis milling program, and the verdict on such a program.
 #![tactic(auto)]
 
-mod compile;
-mod find;
-mod generated;
-mod judge;
-mod laws;
-mod loading;
-mod prepare;
-mod program_reading;
-mod reading;
-mod report;
-mod run;
-mod status;
-#[cfg(test)]
-mod tests;
-mod verify;
-
-pub use run::run;
 use sn_geom::Memory;
 use sn_io::{DiskFiles, OutSink};
+use sn_run::{Status, run};
 use sn_words::Words;
-pub use status::Status;
 use std::env;
 use std::io::{Stderr, Stdout};
 use std::process::ExitCode;

@@ -1,0 +1,19 @@
+//! What the words of a command ask for: reading and judging parts, their programs and counts, verdicts, and the top call.
+#![tactic(auto)]
+
+mod compile;
+mod find;
+mod generated;
+mod judge;
+pub mod laws;
+mod loading;
+mod prepare;
+mod program_reading;
+mod reading;
+mod report;
+mod run;
+mod status;
+mod verify;
+
+pub use run::{run, run_steadily};
+pub use status::Status;

@@ -1,5 +1,0 @@
-use Rattle.stepmill.proofs.JudgedLemmas as lemmas
-use Rattle.stepmill.proofs.judge.sound_or_refused.Goals as goal
-
-pub returns : goal.returns
-returns c = lemmas.sound_or_refused c.one_file.ensures c.one_fault.ensures c.one_model.ensures c.one_verdict.ensures

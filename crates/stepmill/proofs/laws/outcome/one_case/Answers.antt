@@ -1,5 +1,0 @@
-use Rattle.stepmill.proofs.OutcomeLawLemmas as lemmas
-use Rattle.stepmill.proofs.laws.outcome.one_case.Goals as goal
-
-pub returns : goal.returns
-returns c = lemmas.one_case c.one_meaning.ensures c.one_file.ensures c.one_fault.ensures c.one_model.ensures c.one_verdict.ensures
