@@ -211,7 +211,7 @@ def draw_motions(view, runs, tools):
             identity = f"{view.across}{view.up}{index}"
             if is_above and run.tool in tools:
                 width = short(tools[run.tool].diameter * view.scale)
-                view.add(f'<g clip-path="url(#raw)"><use class="swath" href="#{identity}" stroke-width="{width}"/></g>')
+                view.add(f'<g clip-path="url(#raw-box)"><use class="swath" href="#{identity}" stroke-width="{width}"/></g>')
             view.add(f'<g class="feed"><path id="{identity}" d="{"".join(way)}"/></g>')
         for motion in plunges:
             x, y = view.place(motion.end).split()
@@ -226,7 +226,7 @@ def draw_motions(view, runs, tools):
 
 def top_scale(low, high):
     """Pixels for a millimetre of the view from above."""
-    return min((WIDTH - 60) / (high[0] - low[0]), 500 / (high[1] - low[1]))
+    return min((WIDTH - 60) / (high[0] - low[0]), 440 / (high[1] - low[1]))
 
 
 def views(low, high, features, runs, tools, security):
@@ -239,7 +239,7 @@ def views(low, high, features, runs, tools, security):
     above.rulers()
     corner, other = above.place(low).split(), above.place(high).split()
     size = [short(abs(float(a) - float(b))) for a, b in zip(corner, other)]
-    above.add(f'<clipPath id="raw"><rect x="{corner[0]}" y="{other[1]}" width="{size[0]}" height="{size[1]}"/></clipPath>')
+    above.add(f'<clipPath id="raw-box"><rect x="{corner[0]}" y="{other[1]}" width="{size[0]}" height="{size[1]}"/></clipPath>')
     draw_motions(above, runs, tools)
     above.origin()
     widths = [greatest[axis] - least[axis] for axis in (0, 1)]

@@ -276,7 +276,7 @@ def accepted(words, part, compiled, counts, verdict):
         "front": front,
         "side": side,
         "stock_picture": stock.picture(),
-        "stock_size": drawing.short(min(440, 300 * (high[0] - low[0]) / (high[1] - low[1]))),
+        "stock_size": drawing.short(min(380, 230 * (high[0] - low[0]) / (high[1] - low[1]))),
         "stock_removed": stock.removed() / 1000,
         "levels": [(height, share, stock.colour(height)) for height, share in stock.levels()],
     }

@@ -77,6 +77,7 @@ class Feature:
     top: float
     floor: float
     outline: Outline
+    corner_radius: float = 0.0
     bosses: list = field(default_factory=list)
 
 
@@ -315,13 +316,15 @@ class Part:
         frame = self._workpiece_frame().then(self._frame(self._named(instance, 4)))
         top = frame.origin[2]
         depth = self._point(self._named(self._named(self._named(instance, 5), 2), 2))[2]
-        bosses = []
+        bosses, radius = [], 0.0
+        if instance.keyword == "CLOSED_POCKET":
+            radius = max((self._length(instance, place) for place in (9, 10) if self._maybe(instance, place)), default=0.0)
         outline = getattr(self, "_outline_of_" + FEATURES[instance.keyword])(instance, frame)
         place = {"PLANAR_FACE": 9, "CLOSED_POCKET": 6}.get(instance.keyword)
         for boss in (self._at(instance, place) or []) if place else []:
             island = self._get(boss, "BOSS")
             bosses.append(self._profile(self._named(island, 6), frame.then(self._frame(self._named(island, 4)))))
-        return Feature(number, self.name_of(number), FEATURES[instance.keyword], top, top + depth, outline, bosses)
+        return Feature(number, self.name_of(number), FEATURES[instance.keyword], top, top + depth, outline, radius, bosses)
 
     def _way(self, path):
         """The points of a path in the frame of its feature."""
