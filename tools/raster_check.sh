@@ -57,7 +57,7 @@ fn job(alloc: Global, pitch: u32, low: Place, high: Place) -> Option<Job> {
         pitch,
         place(low)?,
         place(high)?,
-        2_000_000,
+        REACH as i32,
         Steps::new(alloc),
         Numbers::new(alloc),
     )
@@ -116,7 +116,7 @@ fn pass(rt: &HostRuntime, map: &mut Heights, body: Body, a: Place, b: Place) -> 
     let Some((from, to)) = ends(a, b) else {
         return Ok(());
     };
-    match map.first_touched(body.d, &from, &to, -2_000_000) {
+    match map.first_touched(body.d, &from, &to, -(REACH as i32)) {
         Some(c) => println!(rt; "touched i {} j {} z {}", c.i, c.j, c.z)?,
         None => println!(rt; "touched none")?,
     }
