@@ -38,7 +38,7 @@ cp completion/stepmill "$made/usr/share/bash-completion/completions/"
 gzip -9nc man/stepmill.1 > "$made/usr/share/man/man1/stepmill.1.gz"
 echo '.so man1/stepmill.1' | gzip -9nc > "$made/usr/share/man/man1/stepmill-filter.1.gz"
 cat > "$doc/copyright" << TEXT
-stepmill is made by its maintainers. The repository that this package is made of names no licence.
+Copyright: the maintainers of stepmill. The repository that this package is made of names no licence.
 TEXT
 printf 'stepmill (%s) stable; urgency=low\n\n  * The program as the gate built it.\n\n -- %s  %s\n' "$version" \
   "$(git log -1 --format='%an <%ae>')" "$(git log -1 --format=%aD)" | gzip -9nc > "$doc/changelog.gz"
@@ -48,7 +48,7 @@ Version: $version
 Architecture: amd64
 Maintainer: $(git log -1 --format='%an <%ae>')
 Installed-Size: $(du -sk "$made/usr" | cut -f 1)
-Depends: bash, libc6 (>= 2.34)
+Depends: libc6 (>= 2.34), python3:any
 Recommends: bash-completion, mawk | gawk
 Suggests: python3-jinja2, python3-numpy
 Section: science
