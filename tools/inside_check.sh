@@ -49,7 +49,7 @@ fn number(word: &str) -> Option<i32> {
     }
 }
 
-fn parsed(alloc: Global, text: &str, has_width: bool) -> Option<Parsed> {
+fn read_numbers(alloc: Global, text: &str, has_width: bool) -> Option<Parsed> {
     let mut width = 0;
     let mut points = Points::new(alloc);
     let mut before = None;
@@ -84,13 +84,13 @@ fn corners(points: &Points) -> Option<(Pt, Pt)> {
 fn shape(alloc: Global, kind: &str, text: &str) -> Option<Shape> {
     match kind {
         "rect" => {
-            let read = parsed(alloc, text, false)?;
+            let read = read_numbers(alloc, text, false)?;
             let (low, high) = corners(&read.points)?;
             Some(Shape::Rect(low, high))
         }
-        "polygon" => Some(Shape::Polygon(parsed(alloc, text, false)?.points)),
+        "polygon" => Some(Shape::Polygon(read_numbers(alloc, text, false)?.points)),
         "trail" => {
-            let read = parsed(alloc, text, true)?;
+            let read = read_numbers(alloc, text, true)?;
             Some(Shape::Trail(read.points, read.width))
         }
         _ => None,
@@ -142,15 +142,15 @@ fn main(rt: HostRuntime) -> io::Result<()> {
             None => "",
         };
         match parts.next() {
-            None => at = parsed_point(rt.alloc(), kind),
+            None => at = point_of(rt.alloc(), kind),
             Some(text) => tell(&rt, any_shape(rt.alloc(), kind, text), at)?,
         }
     }
     Ok(())
 }
 
-fn parsed_point(alloc: Global, text: &str) -> Option<Pt> {
-    let read = parsed(alloc, text, false)?;
+fn point_of(alloc: Global, text: &str) -> Option<Pt> {
+    let read = read_numbers(alloc, text, false)?;
     let p = read.points.as_slice().first()?;
     Some(*p)
 }

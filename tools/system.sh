@@ -788,6 +788,20 @@ check_memory() {
     fi
   done
   told 'many words in little memory' "$wrong" "$wanted"
+  run compile "$plate" --raw "$plate_box"
+  cp "$folder/out" "$folder/plate.ngc"
+  wrong=0 wanted=0 count=0
+  for ((kilobytes = 8000; count < 3 && kilobytes < 200000; kilobytes += 2000)); do
+    run_within "$kilobytes" compile "$plate" --raw "$plate_box"
+    if is_memory 'stepmill: memory'; then
+      wanted=$((wanted + 1))
+    elif [ "$status" -eq 0 ] && has_output "@$folder/plate.ngc" && has_errors ''; then
+      count=$((count + 1))
+    elif ! is_not_begun; then
+      wrong=$((wrong + 1))
+    fi
+  done
+  told 'the plate in little memory' "$((wrong + (count < 3)))" "$wanted"
 }
 
 [ $# -gt 0 ] || set -- crates/stepmill/out/stepmill
