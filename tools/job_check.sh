@@ -251,7 +251,7 @@ passed = failed = grids = left = 0
 for row in open(cases):
     case = json.loads(row)
     # islands, and what later options say, are not built yet
-    if "=BOSS(" in case["files"]["part"].replace(" ", "") or {"--contour", "--ramp", "--clear"} & set(case["args"]):
+    if "BOSS" in case["files"]["part"] or {"--contour", "--ramp", "--clear"} & set(case["args"]):
         left += 1
         continue
     part = os.path.join(folder, "part")

@@ -46,7 +46,7 @@ def main():
     for line in open(path):
         case = json.loads(line)
         part = case["files"]["part"]
-        if "=BOSS(" in part.replace(" ", ""):
+        if "BOSS" in part:
             left += 1
             continue
         with tempfile.TemporaryDirectory() as folder:
