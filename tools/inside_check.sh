@@ -136,17 +136,25 @@ fn main(rt: HostRuntime) -> io::Result<()> {
     };
     let mut at = None;
     for arg in args.skip(1) {
-        let mut parts = arg.as_str().split(':');
-        let kind = match parts.next() {
-            Some(kind) => kind,
-            None => "",
-        };
-        match parts.next() {
-            None => at = point_of(rt.alloc(), kind),
-            Some(text) => tell(&rt, any_shape(rt.alloc(), kind, text), at)?,
-        }
+        at = after(&rt, at, arg.as_str())?;
     }
     Ok(())
+}
+
+/// The point that is asked of, after a word: a point, or a shape that is asked of it.
+fn after(rt: &HostRuntime, at: Option<Pt>, word: &str) -> io::Result<Option<Pt>> {
+    let mut parts = word.split(':');
+    let kind = match parts.next() {
+        Some(kind) => kind,
+        None => "",
+    };
+    match parts.next() {
+        None => Ok(point_of(rt.alloc(), kind)),
+        Some(text) => {
+            tell(rt, any_shape(rt.alloc(), kind, text), at)?;
+            Ok(at)
+        }
+    }
 }
 
 fn point_of(alloc: Global, text: &str) -> Option<Pt> {
