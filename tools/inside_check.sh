@@ -112,7 +112,7 @@ fn is_near_enough(shape: &Shape) -> bool
     }
 }
 
-fn tell(rt: &HostRuntime, shape: Option<Shape>, p: Option<Pt>) -> io::Result<()> {
+fn tell(rt: &HostRuntime, shape: Option<Shape>, p: &Option<Pt>) -> io::Result<()> {
     let Some(shape) = shape else {
         return println!(rt; "no shape");
     };
@@ -126,7 +126,7 @@ fn tell(rt: &HostRuntime, shape: Option<Shape>, p: Option<Pt>) -> io::Result<()>
         shape,
         islands: Shapes::new(rt.alloc()),
     };
-    let is_in = inside(&outline, &p);
+    let is_in = inside(&outline, p);
     println!(rt; "{is_in}")
 }
 
@@ -151,7 +151,7 @@ fn after(rt: &HostRuntime, at: Option<Pt>, word: &str) -> io::Result<Option<Pt>>
     match parts.next() {
         None => Ok(point_of(rt.alloc(), kind)),
         Some(text) => {
-            tell(rt, any_shape(rt.alloc(), kind, text), at)?;
+            tell(rt, any_shape(rt.alloc(), kind, text), &at)?;
             Ok(at)
         }
     }
