@@ -11,9 +11,9 @@ mod prepare;
 mod program_reading;
 mod reading;
 mod report;
-mod run;
 mod status;
+mod top_call;
 mod verify;
 
-pub use run::{run, run_steadily};
 pub use status::Status;
+pub use top_call::{run, run_steadily};

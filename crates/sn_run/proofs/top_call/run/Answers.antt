@@ -1,7 +1,7 @@
 use Rattle.std.proofs.Common.{refl, ◌∙◌, inl, inr}
 use Rattle.sn_run.specs.Outcome.Stops.{at_message}
 use Rattle.sn_run.proofs.AnswerLemmas as lemmas
-use Rattle.sn_run.proofs.run.run.Goals as goal
+use Rattle.sn_run.proofs.top_call.run.Goals as goal
 
 -- An answer was found.
 
