@@ -88,14 +88,18 @@ def build(mill, clearance):
 
     face = PathMillFace.Create("Face")
     face.BoundaryShape = "Stock"
-    face.OffsetPattern = "ZigZag"
+    face.OffsetPattern = "ZigZagOffset"
+    face.ZigZagAngle = 0
     face.StepOver = 50
+    # Past the edges of the block by the radius: the middle of the tool goes along them.
+    face.ExtraOffset = 5
     set_heights(face, "10 face", facing, 22, 20, 2.5, clearance)
 
     drilling = controller(job, "drilling", tool("drill", "drill.fcstd", 10), 2, 960, 300)
     pocketing = controller(job, "pocketing", facing.Tool, 1, 1200, 1200)
     bore = PathDrilling.Create("Drill")
-    set_heights(bore, "11 drill", drilling, 20, 0, None, clearance)
+    # The part does not say the angle of the drill's point, so 5 mm of it are taken to be pointed.
+    set_heights(bore, "11 drill", drilling, 20, -5, None, clearance)
     bore.setExpression("RetractHeight", None)
     bore.RetractHeight = 21
 
@@ -103,6 +107,7 @@ def build(mill, clearance):
     rough = PathPocketShape.Create("Rough")
     rough.Base = [floor]
     rough.OffsetPattern = "ZigZagOffset"
+    rough.ZigZagAngle = 0
     rough.StepOver = 40
     rough.ExtraOffset = 0.5
     set_heights(rough, "13 rough pocket", pocketing, 20, 12.5, 4, clearance)
@@ -110,6 +115,7 @@ def build(mill, clearance):
     finish = PathPocketShape.Create("Finish")
     finish.Base = [floor]
     finish.OffsetPattern = "ZigZagOffset"
+    finish.ZigZagAngle = 0
     finish.StepOver = 40
     set_heights(finish, "14 finish pocket", pocketing, 20, 12, 10, clearance)
     document.recompute()
