@@ -2,8 +2,8 @@
 
     FREECAD_OUT=FILE [FREECAD_MILL=DIAMETER] [FREECAD_CLEARANCE=Z] freecadcmd plate.py
 
-FREECAD_MILL is the diameter of the mill in mm (10), FREECAD_CLEARANCE the clearance height of each operation in mm (30, the
-security height of the part); the safe height is the same, or 24 where the clearance is above it.
+FREECAD_MILL is the diameter of the mill in mm (10). FREECAD_CLEARANCE is the clearance height of the last operation in mm (30,
+as for the others: the security height of the part). FREECAD_POST has options of the post-processor.
 """
 
 import os
@@ -50,7 +50,7 @@ def set_controller(made, name, speed, feed):
     made.HorizFeed = made.VertFeed = "%g mm/min" % feed
 
 
-def set_heights(operation, label, used, start, final, step, clearance):
+def set_heights(operation, label, used, start, final, step, clearance=30):
     operation.Label = label
     operation.ToolController = used
     heights = {"ClearanceHeight": clearance, "SafeHeight": min(clearance, 24), "StartDepth": start, "FinalDepth": final}
@@ -68,6 +68,14 @@ def floor_at(shape, height):
         if abs(box.ZMin - height) < 1e-6 and abs(box.ZMax - height) < 1e-6:
             return "Face%d" % (place + 1)
     raise ValueError("no face at %g" % height)
+
+
+def round_face(shape):
+    """The name of the face of the hole."""
+    for place, face in enumerate(shape.Faces):
+        if isinstance(face.Surface, Part.Cylinder):
+            return "Face%d" % (place + 1)
+    raise ValueError("no hole")
 
 
 def build(mill, clearance):
@@ -93,13 +101,14 @@ def build(mill, clearance):
     face.StepOver = 50
     # Past the edges of the block by the radius: the middle of the tool goes along them.
     face.ExtraOffset = 5
-    set_heights(face, "10 face", facing, 22, 20, 2.5, clearance)
+    set_heights(face, "10 face", facing, 22, 20, 2.5)
 
     drilling = controller(job, "drilling", tool("drill", "drill.fcstd", 10), 2, 960, 300)
     pocketing = controller(job, "pocketing", facing.Tool, 1, 1200, 1200)
     bore = PathDrilling.Create("Drill")
+    bore.Base = [(part, [round_face(part.Shape)])]
     # The part does not say the angle of the drill's point, so 5 mm of it are taken to be pointed.
-    set_heights(bore, "11 drill", drilling, 20, -5, None, clearance)
+    set_heights(bore, "11 drill", drilling, 20, -5, None)
     bore.setExpression("RetractHeight", None)
     bore.RetractHeight = 21
 
@@ -110,7 +119,7 @@ def build(mill, clearance):
     rough.ZigZagAngle = 0
     rough.StepOver = 40
     rough.ExtraOffset = 0.5
-    set_heights(rough, "13 rough pocket", pocketing, 20, 12.5, 4, clearance)
+    set_heights(rough, "13 rough pocket", pocketing, 20, 12.5, 4)
 
     finish = PathPocketShape.Create("Finish")
     finish.Base = [floor]

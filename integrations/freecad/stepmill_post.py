@@ -66,8 +66,9 @@ class Program:
         self.lines = ["%", "G21 G90 G17 G94 G40 G61"]
         self.label = ""
         self.mark = self.tool = self.speed = self.feed = self.written_feed = None
-        # The tip in tenths of a micrometre; None where it is not known.
-        self.tip = {"X": None, "Y": None, "Z": None}
+        # The tip in tenths of a micrometre, as the program has it, and in mm before rounding; None where it is not known.
+        self.tip = dict.fromkeys("XYZ")
+        self.exact = dict.fromkeys("XYZ")
         self.motion = None
         self.cycle_words = {}
         self.returns_to_start = True
@@ -100,12 +101,15 @@ class Program:
         self.lines += ["T%d M6" % tool, "G43 H%d" % tool]
         self.tool = tool
         self.speed = self.written_feed = None
-        self.tip = {"X": None, "Y": None, "Z": None}
+        self.tip = dict.fromkeys("XYZ")
+        self.exact = dict.fromkeys("XYZ")
 
-    def move(self, word, **to):
-        """A rapid (`G0`) or a feed (`G1`) along a straight line to a point in tenths of a micrometre."""
+    def move(self, word, exact):
+        """A rapid (`G0`) or a feed (`G1`) along a straight line to a point, given in mm by the axes that may change."""
+        to = {axis: round(value * PER_MM) for axis, value in exact.items()}
         to = {axis: value for axis, value in to.items() if value != self.tip[axis]}
         if not to:
+            self.exact.update(exact)
             return
         if self.tool is None:
             if word == "G0" and list(to) == ["Z"]:
@@ -118,10 +122,12 @@ class Program:
                 self.lines.append("F%d" % self.feed)
                 self.written_feed = self.feed
         if word == "G0" and self.tip["Z"] is None and len(to) == 3:
-            self.move("G0", Z=to.pop("Z"))
+            self.move("G0", {"Z": exact["Z"]})
+            del to["Z"]
         axes = ["%s%.4f" % (axis, to[axis] / PER_MM) for axis in "XYZ" if axis in to]
         self.lines.append(" ".join([word] + axes))
         self.tip.update(to)
+        self.exact.update(exact)
 
     def write(self, name, words):
         """Writes one command."""
@@ -137,7 +143,7 @@ class Program:
             pass
         elif kind in ("G0", "G1"):
             self.set_feed(kind, words)
-            self.move(kind, **self.target(words))
+            self.move(kind, {axis: words[axis] for axis in "XYZ" if axis in words})
         elif kind in ("G2", "G3"):
             self.set_feed(kind, words)
             self.arc(kind, words)
@@ -174,9 +180,6 @@ class Program:
         if self.feed < 1:
             self.refuse(kind, "the feed is below 1 mm/min")
 
-    def target(self, words):
-        return {axis: round(words[axis] * PER_MM) for axis in "XYZ" if axis in words}
-
     def arc(self, kind, words):
         """An arc or a helix about Z as chords."""
         if "R" in words:
@@ -185,7 +188,7 @@ class Program:
             self.refuse(kind, "another plane")
         if None in self.tip.values():
             self.refuse(kind, "the start of the arc is not known")
-        start = [self.tip[axis] / PER_MM for axis in "XYZ"]
+        start = [self.exact[axis] for axis in "XYZ"]
         end = [words.get(axis, place) for axis, place in zip("XYZ", start)]
         centre = [start[0] + words.get("I", 0), start[1] + words.get("J", 0)]
         radius = math.hypot(start[0] - centre[0], start[1] - centre[1])
@@ -207,12 +210,12 @@ class Program:
         for place in range(1, count):
             part = place / count
             here = radius + (last_radius - radius) * part
-            self.move("G1", **self.target({
+            self.move("G1", {
                 "X": centre[0] + here * math.cos(first + turn * part),
                 "Y": centre[1] + here * math.sin(first + turn * part),
                 "Z": start[2] + (end[2] - start[2]) * part,
-            }))
-        self.move("G1", **self.target(dict(zip("XYZ", end))))
+            })
+        self.move("G1", dict(zip("XYZ", end)))
 
     def cycle(self, kind, words):
         """A drilling cycle as its rapids and feeds, those of LinuxCNC. The dwell of G82 is left out."""
@@ -232,22 +235,22 @@ class Program:
             self.refuse(kind, "R lies below Z")
         clear = max(self.tip["Z"], retract) if self.returns_to_start else retract
         if self.tip["Z"] < retract:
-            self.move("G0", Z=retract)
-        self.move("G0", **self.target({axis: words[axis] for axis in "XY" if axis in words}))
-        self.move("G0", Z=retract)
+            self.move("G0", {"Z": retract / PER_MM})
+        self.move("G0", {axis: words[axis] for axis in "XY" if axis in words})
+        self.move("G0", {"Z": retract / PER_MM})
         if kind in ("G73", "G83"):
             peck = round(self.cycle_words["Q"] * PER_MM)
             if peck <= 0:
                 self.refuse(kind, "Q is not above 0")
             depth = retract - peck
             while depth > bottom:
-                self.move("G1", Z=depth)
+                self.move("G1", {"Z": depth / PER_MM})
                 if kind == "G83":
-                    self.move("G0", Z=retract)
-                self.move("G0", Z=depth + round(PECK_CLEARANCE * PER_MM))
+                    self.move("G0", {"Z": retract / PER_MM})
+                self.move("G0", {"Z": depth / PER_MM + PECK_CLEARANCE})
                 depth -= peck
-        self.move("G1", Z=bottom)
-        self.move("G0", Z=clear)
+        self.move("G1", {"Z": bottom / PER_MM})
+        self.move("G0", {"Z": clear / PER_MM})
 
 
 def controller(operation):
