@@ -162,6 +162,30 @@ def check_numbers():
     check(lines == wanted, "wanted %r, came %r" % (wanted, lines))
 
 
+def check_marks():
+    """Operations of one workingstep have one mark; another speed of the same tool is set; low rapids are kept."""
+    def tool(speed):
+        return Item("tool", [Command("M6", T=1), Command("M3", S=speed)], ToolNumber=1, SpindleSpeed=speed)
+
+    def cut(label, used, depth):
+        moves = [Command("G0", Z=30.0), Command("G0", X=0.0, Y=0.0), Command("G1", Z=depth, F=5.0), Command("G0", Z=20.0)]
+        return Item(label, moves, ToolController=used)
+
+    slow, fast = tool(1000.9), tool(2000.0)
+    off = cut("5 off", slow, 1.0)
+    off.Active = False
+    lines = post.export([
+        Item("G54", [Command("G54"), Command("G0", Z=25.0)]), slow, cut("1 a", slow, 5.0), off, cut("1 b", slow, 4.0),
+        cut("2 c", fast, 3.0),
+    ], "-", "")
+    one = "G0 Z30.0000\n%sG1 Z%.4f\nG0 Z20.0000\n"
+    wanted = (
+        HEAD.replace("F300\n", "(WS #1)\n") + one % ("G0 X0.0000 Y0.0000\nF300\n", 5) + one % ("", 4)
+        + "(WS #2)\nS2000 M3\n" + one % ("", 3) + "M2\n%\n"
+    )
+    check(lines == wanted, "wanted %s, came %s" % (wanted, lines))
+
+
 # ---- cycles
 
 def canonical(interpreter, program):
@@ -214,6 +238,7 @@ def main():
     check_arcs()
     check_refusals()
     check_numbers()
+    check_marks()
     if len(sys.argv) > 1:
         check_cycles(sys.argv[1])
     else:

@@ -21,6 +21,9 @@ parser.add_argument("--chord", type=float, default=0.005, help="greatest distanc
 parser.add_argument("--no-show-editor", action="store_true", help="changes nothing: no editor is shown")
 TOOLTIP_ARGS = parser.format_help()
 
+# What FreeCAD asks of a post-processor: the units of its programs.
+UNITS = "G21"
+
 # Lengths are counted in tenths of a micrometre.
 PER_MM = 10000
 # Rounding moves a point by less than this many millimetres.
