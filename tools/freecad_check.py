@@ -160,6 +160,9 @@ def check_numbers():
     lines = posted([Command("G0", Z=30.0), Command("G0", X=1.00004, Y=-0.00004), Command("G1", Z=2.5, F=1234.7 / 60)])
     wanted = HEAD.replace("F300\n", "(WS #1)\n") + "G0 Z30.0000\nG0 X1.0000 Y0.0000\nF1234\nG1 Z2.5000\nM2\n%\n"
     check(lines == wanted, "wanted %r, came %r" % (wanted, lines))
+    lines = posted([Command("G00", X=1.0, Y=2.0, Z=30.0), Command("G00", X=3.0, Y=2.0, Z=20.0)])
+    wanted = HEAD.replace("F300\n", "(WS #1)\n") + "G0 Z30.0000\nG0 X1.0000 Y2.0000\nG0 X3.0000 Z20.0000\nM2\n%\n"
+    check(lines == wanted, "wanted %r, came %r" % (wanted, lines))
 
 
 def check_marks():
