@@ -791,7 +791,7 @@ check_memory() {
   run compile "$plate" --raw "$plate_box"
   cp "$folder/out" "$folder/plate.ngc"
   wrong=0 wanted=0 count=0
-  for ((kilobytes = 8000; count < 3 && kilobytes < 200000; kilobytes += 2000)); do
+  for kilobytes in $(seq "$room" 250 $((room + 6000))) $(seq 8000 2000 30000); do
     run_within "$kilobytes" compile "$plate" --raw "$plate_box"
     if is_memory 'stepmill: memory'; then
       wanted=$((wanted + 1))
@@ -801,7 +801,7 @@ check_memory() {
       wrong=$((wrong + 1))
     fi
   done
-  told 'the plate in little memory' "$((wrong + (count < 3)))" "$wanted"
+  told 'the plate in little memory' "$((wrong + (count == 0)))" "$wanted"
 }
 
 [ $# -gt 0 ] || set -- crates/stepmill/out/stepmill
