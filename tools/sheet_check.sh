@@ -126,6 +126,14 @@ check "no page of a missing file" [ ! -s "$room/missing.html" ]
 refused words 2 $data/one.stp --cell 19
 check "no page of wrong words" [ ! -s "$room/words.html" ]
 
+"$sheet" $data/one.stp > /dev/full 2> "$room/err"
+check "status of a full disk" [ $? = 4 ]
+printf '#!/bin/sh\n[ "$1" != verify ] || { echo no; exit 6; }\nexec "%s" "$@"\n' "$STEPMILL" > "$room/judge"
+chmod +x "$room/judge"
+STEPMILL=$room/judge "$sheet" $data/one.stp > "$room/no.html"
+check "status of a verdict no" [ $? = 6 ]
+check "page of a verdict no" grep -q 'class="verdict no" id="verdict">verify: no<small>Do not run this program' "$room/no.html"
+
 "$STEPMILL" make 0 > "$room/make.stp"
 accepted make 0.25 "$room/make.stp"
 clicked "$room/make.html" 5 5
